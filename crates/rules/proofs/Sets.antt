@@ -184,7 +184,9 @@ ones-apart = bin-ind (λ (n : ℕ). (b : ℕ) → ((f : ℕ) → bit n f + bit b
 -- ---- the facts below n
 
 pub bit-below : (n f : ℕ) → f < n → bit (below n) f ≡ 1
-bit-below n f h = flip n zero f (pow-pos n) h ∙ ap (λ (x : ℕ). 1 - x) (bit-none f)
+bit-below n f h =
+    let e : 2 ^ n - 1 - 0 ≡ 2 ^ n - 1 = omega arith in
+    omega (arith, ap (λ (x : ℕ). bit x f) e, flip n 0 f (pow-pos n) h, bit-none f)
 
 pub bit-above : (n f : ℕ) → n ≤ f → bit (below n) f ≡ zero
 bit-above n f h = bit-high n (below n) f (omega (arith, pow-pos n)) h
@@ -224,6 +226,7 @@ pub apart-and : (a b : ℕ) → (Meets a b → ⊥) → a ∩ b ≡ 0
 apart-and a b h = elim (eq-zero-or-pos (a ∩ b)) [ inl e ↦ e | inr p ↦ absurd (h (pos→meets a b p)) ]
 
 pub size-single : (f : ℕ) → size (single f) ≡ 1
+unfolding ones
 size-single zero = refl
 size-single (suc f) = omega (arith, ones-step (2 ^ suc f), ap ones (half-pow f), size-single f)
 
@@ -249,6 +252,7 @@ sets-mean = (
     λ a b. (→apart a b, apart-and a b))
 
 pub sizes-mean : Sizes-mean
+unfolding ones
 sizes-mean = (refl, size-single, λ a b h. ones-apart a b (apart→ a b h))
 
 -- ---- the test a & b != 0
