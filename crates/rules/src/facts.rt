@@ -2,8 +2,9 @@
 
 ghost use mathlib.Core.Path.{_≡_};
 ghost use Prim.Native.Nat.{ℕ, min};
-ghost use lib.Dec.{T};
-ghost use Rattle.rules.specs.Sets.{_⊆_, _∖_, Meets, inside, below, size as sizeOf};
+ghost use mathlib.Core.Bool.{not};
+ghost use lib.Dec.{T, eqb};
+ghost use Rattle.rules.specs.Sets.{_⊆_, _∩_, _∖_, Meets, inside, below, size as sizeOf};
 
 /// A set of facts, of which there are at most 32.
 pub type Facts = u32;
@@ -26,6 +27,7 @@ pub fn is_subset(a: Facts, b: Facts) -> bool
 
 /// Whether `a` and `b` share a fact.
 pub fn meets(a: Facts, b: Facts) -> bool
+    ensures test { λ r. ⌜ r ≡ not (eqb (a ∩ b) 0) ⌝ }
     ensures holds { λ r. ⌜ (T r → Meets a b) ⌝ }
     ensures fails { λ r. ⌜ (Meets a b → T r) ⌝ }
 {

@@ -2,7 +2,7 @@
 
 ghost use mathlib.Core.Path.{_≡_};
 ghost use Prim.Native.Nat.{ℕ};
-ghost use lib.ListN.{getD};
+ghost use lib.ListN.{length, getD};
 ghost use lib.Bits.{bitAnd};
 ghost use Rattle.std.specs.declared.option.Option.the-variants.{Some, None};
 ghost use Rattle.rules.specs.declared.step.Step.{Step as TheStep};
@@ -17,5 +17,6 @@ pub const PLACES: u8 = 64;
 #[derive(Drop)]
 pub struct StepTable {
     places: [Option<Step>; 64],
+    ghost count: { length places ≡ 64 },
     ghost consistent: { (i : ℕ) (t : TheStep) → getD places i None ≡ Some t → bitAnd (t .gives) (t .takes) ≡ 0 },
 }

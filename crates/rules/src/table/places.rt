@@ -46,7 +46,7 @@ impl StepTable {
         if place >= PLACES {
             return Err(Refusal::NoSuchPlace);
         }
-        if let Some(_) = self.places[place as usize] {
+        if self.get(place).is_some() {
             return Err(Refusal::PlaceTaken);
         }
         self.places[place as usize] = Some(step);
