@@ -33,30 +33,30 @@ forward→ t s r = go (inside (t .needs) s) refl
 pub →forward : (t : Step) (s : ℕ) → t .needs ⊆ s → forward t s ≡ Some (done t s)
 →forward t s h = ap (λ b. cond b (Some (done t s)) None) (T→true (inside (t .needs) s) (→inside (t .needs) s h))
 
-path→walk : (p : Task) (s : ℕ) (l : List ℕ) (e : ℕ) → Path forward (p .steps) s l e → Walk p s l e
-path→walk p s [] e q = q
-path→walk p s (i ∷ l) e (t, is, r, leads, on) =
+path→walk : (ts : List (Option Step)) (s : ℕ) (l : List ℕ) (e : ℕ) → Path forward ts s l e → Walk ts s l e
+path→walk ts s [] e q = q
+path→walk ts s (i ∷ l) e (t, is, r, leads, on) =
     let (can, q) = forward→ t s r leads in
-    (t, is, can, path→walk p (done t s) l e (subst (λ x. Path forward (p .steps) x l e) (sym q) on))
+    (t, is, can, path→walk ts (done t s) l e (subst (λ x. Path forward ts x l e) (sym q) on))
 
-walk→path : (p : Task) (s : ℕ) (l : List ℕ) (e : ℕ) → Walk p s l e → Path forward (p .steps) s l e
-walk→path p s [] e q = q
-walk→path p s (i ∷ l) e (t, is, can, on) = (t, is, done t s, →forward t s can, walk→path p (done t s) l e on)
+walk→path : (ts : List (Option Step)) (s : ℕ) (l : List ℕ) (e : ℕ) → Walk ts s l e → Path forward ts s l e
+walk→path ts s [] e q = q
+walk→path ts s (i ∷ l) e (t, is, can, on) = (t, is, done t s, →forward t s can, walk→path ts (done t s) l e on)
 
 pub forward-walks : Forward-walks
-forward-walks p s l e = (path→walk p s l e, walk→path p s l e)
+forward-walks ts s l e = (path→walk ts s l e, walk→path ts s l e)
 
 pub whole-blocked : Whole-blocked
 whole-blocked p m w away l plan =
     let (e, on, o) = leads→ p (p .standing) l plan in
-    let (i, h, q) = reached-listed forward (p .steps) (p .standing) m w l e (walk→path p (p .standing) l e on) in
+    let (i, h, q) = reached-listed forward (p .steps) (p .standing) m w l e (walk→path (p .steps) (p .standing) l e on) in
     away i h (subst (λ x. p .order ⊆ x) (sym q) o)
 
 pub listed-plan : Listed-plan
 listed-plan p m i h o =
     let (l, on) = listed-reached forward (p .steps) (p .standing) m i h in
     let e : ℕ = getD (standings p m) i 0 in
-    (l, →leads p (p .standing) l e (path→walk p (p .standing) l e on) o)
+    (l, →leads p (p .standing) l e (path→walk (p .steps) (p .standing) l e on) o)
 
 -- ---- a listing of finitely many standings ends
 
@@ -98,7 +98,7 @@ sized p =
     let c : ℕ = b + p .standing in
     (c, (more-power (p .standing) (p .standing) c (below-power (p .standing)) (omega arith), λ i t e. more-power (t .gives) b c (h i t e) (omega arith)))
 
-walk-below : (b : ℕ) (p : Task) → Sized b p → (s : ℕ) (l : List ℕ) (e : ℕ) → s < 2 ^ b → Walk p s l e → e < 2 ^ b
+walk-below : (b : ℕ) (p : Task) → Sized b p → (s : ℕ) (l : List ℕ) (e : ℕ) → s < 2 ^ b → Walk (p .steps) s l e → e < 2 ^ b
 walk-below b p z s [] e h q = subst (λ x. x < 2 ^ b) q h
 walk-below b p z s (i ∷ l) e h (t, is, can, on) =
     walk-below b p z (done t s) l e
@@ -114,4 +114,4 @@ decided p x =
     let q : Task = strike p x in
     let (b, z) = sized q in
     decides q (2 ^ b) (listing-ends forward (q .steps) (q .standing) b
-      (λ l e on. walk-below b q z (q .standing) l e (z .0) (path→walk q (q .standing) l e on)))
+      (λ l e on. walk-below b q z (q .standing) l e (z .0) (path→walk (q .steps) (q .standing) l e on)))

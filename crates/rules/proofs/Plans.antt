@@ -99,11 +99,11 @@ doing p i t x is can stuck (l, on) =
 
 -- ---- plans are walks
 
-pub leads→ : (p : Task) (s : ℕ) (l : List ℕ) → Leads p s l → (e : ℕ) × Walk p s l e × (p .order ⊆ e)
+pub leads→ : (p : Task) (s : ℕ) (l : List ℕ) → Leads p s l → (e : ℕ) × Walk (p .steps) s l e × (p .order ⊆ e)
 leads→ p s [] h = (s, refl, h)
 leads→ p s (i ∷ l) (t, is, can, on) = let (e, k, q) = leads→ p (done t s) l on in (e, (t, is, can, k), q)
 
-pub →leads : (p : Task) (s : ℕ) (l : List ℕ) (e : ℕ) → Walk p s l e → p .order ⊆ e → Leads p s l
+pub →leads : (p : Task) (s : ℕ) (l : List ℕ) (e : ℕ) → Walk (p .steps) s l e → p .order ⊆ e → Leads p s l
 →leads p s [] e q o = subst (λ x. p .order ⊆ x) (sym q) o
 →leads p s (i ∷ l) e (t, is, can, on) o = (t, is, can, →leads p (done t s) l e on o)
 

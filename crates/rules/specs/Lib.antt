@@ -4,6 +4,7 @@ pub mod Refusals
 pub mod Places
 pub mod Planning
 pub mod Waivers
+pub mod Checking
 pub mod Listing
 pub mod Theorems
 pub mod Examples

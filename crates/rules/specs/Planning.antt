@@ -38,10 +38,10 @@ Leads p s (i ∷ l) = (t : Step) × (held p i ≡ Some t) × (t .needs ⊆ s) ×
 abbrev pub Plan : Task → List ℕ → Type 0
 Plan p l = Leads p (p .standing) l
 
--- doing the steps at the places l in turn takes the standing s to e
-abbrev pub Walk : Task → ℕ → List ℕ → ℕ → Type 0
-Walk p s [] e = s ≡ e
-Walk p s (i ∷ l) e = (t : Step) × (held p i ≡ Some t) × (t .needs ⊆ s) × Walk p (done t s) l e
+-- doing the steps that ts holds at the places l, one after another, takes the standing s to e
+abbrev pub Walk : List (Option Step) → ℕ → List ℕ → ℕ → Type 0
+Walk ts s [] e = s ≡ e
+Walk ts s (i ∷ l) e = (t : Step) × (getD ts i None ≡ Some t) × (t .needs ⊆ s) × Walk ts (done t s) l e
 
 -- the step t without the facts of g
 abbrev pub stepWithout : ℕ → Step → Step

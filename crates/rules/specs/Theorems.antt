@@ -43,7 +43,7 @@ Doing = (p : Task) (i : ℕ) (t : Step) (x : ℕ) → held p i ≡ Some t → t 
 
 -- A plan is a walk to a standing that contains the order.
 abbrev pub Plans-walk : Type 0
-Plans-walk = (p : Task) (l : List ℕ) → Plan p l ↔ ((e : ℕ) × Walk p (p .standing) l e × (p .order ⊆ e))
+Plans-walk = (p : Task) (l : List ℕ) → Plan p l ↔ ((e : ℕ) × Walk (p .steps) (p .standing) l e × (p .order ⊆ e))
 
 -- ---- good sets and groups
 
@@ -102,7 +102,7 @@ Listing-ends = (f : Successor) (ts : List (Option Step)) (start b : ℕ)
 
 -- What the forward listing reaches is what can be done.
 abbrev pub Forward-walks : Type 0
-Forward-walks = (p : Task) (s : ℕ) (l : List ℕ) (e : ℕ) → Path forward (p .steps) s l e ↔ Walk p s l e
+Forward-walks = (ts : List (Option Step)) (s : ℕ) (l : List ℕ) (e : ℕ) → Path forward ts s l e ↔ Walk ts s l e
 
 -- A whole forward listing in which the order stands nowhere means that no plan of any length exists.
 abbrev pub Whole-blocked : Type 0

@@ -1,5 +1,6 @@
 //! The rules: sets of facts, licence steps, planning problems, and the theorems that the finder rests on.
 
+mod check;
 mod facts;
 mod problem;
 mod refusal;
@@ -7,6 +8,7 @@ mod step;
 mod table;
 mod theorems;
 
+pub use check::PlanCheck;
 pub use facts::Facts;
 pub use facts::difference;
 pub use facts::facts_below;
