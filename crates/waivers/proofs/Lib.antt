@@ -1,0 +1,4 @@
+pub mod Keep
+pub mod Largest
+pub mod Turns
+pub mod Searches
