@@ -30,7 +30,13 @@ pub trait Decider {
     law within: { (d : Self) (p : Task) (x m b : ℕ) → reach d p x m b → Sized m b };
 
     /// Whether the problem has a plan without the facts of `strike`. The rows are free afterwards.
-    fn query(&mut self, problem: &Problem, strike: Facts, sheet: &mut [Row], book: &mut [u8]) -> Result<Verdict, DeciderFault>
+    fn query(
+        &mut self,
+        problem: &Problem,
+        strike: Facts,
+        sheet: &mut [Row],
+        book: &mut [u8],
+    ) -> Result<Verdict, DeciderFault>
         ensures answer { λ r. ⌜ Answers (reach (now (self .entry)) (task (now (problem .entry))) strike (length (now (sheet .entry))) (length (now (book .entry)))) signed (task (now (problem .entry))) strike (length (now (sheet .entry))) (now (book .entry)) (now (book .exit)) r ⌝ }
         ensures same { λ r. ⌜ ((p : Task) (x m b : ℕ) → (reach (now (self .exit)) p x m b → reach (now (self .entry)) p x m b) × (reach (now (self .entry)) p x m b → reach (now (self .exit)) p x m b)) ⌝ };
 }

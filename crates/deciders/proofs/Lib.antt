@@ -1,0 +1,8 @@
+-- Lemmas of the deciders.
+pub mod Chains
+pub mod Sheets
+pub mod Actions
+pub mod Settled
+pub mod Climbs
+pub mod Forwards
+pub mod Backwards
