@@ -1,14 +1,13 @@
 -- What find says once the search has ended and sheet and book are wiped.
 use mathlib.Core.Path.{_≡_, refl, sym, ap, subst, _∙_}
 use mathlib.Core.Bool.{Bool, true, false, cond, _||_}
-use mathlib.Core.Logic.{inl, inr}
 use mathlib.Core.List.{List, [], _∷_, _++_}
 use Prim.Native.Nat.{ℕ, _+_, _-_, _≤_, _<_}
 use native.Mathlib.Omega.{arith}
 use lib.Dec.{eqb, ltb}
 use lib.ListN.{length, take, drop, replicate, length-append, length-replicate}
 use Rattle.std.proofs.shelf.Lists.{take-at, length-take-le}
-use Rattle.std.proofs.shelf.Tests.{cases-bool, ltb-false}
+use Rattle.std.proofs.shelf.Tests.{ltb-false}
 use Rattle.std.specs.declared.option.Option.{Option}
 use Rattle.std.specs.declared.option.Option.the-variants.{Some, None}
 use Rattle.std.specs.declared.result.Result.{Result}
@@ -25,26 +24,29 @@ use Rattle.waivers.specs.Searching.{Choice, Searches}
 use Rattle.cases.specs.State.{State, knownOf}
 use Rattle.cases.specs.Finding.{finding, found, zeroRow, Finds}
 
-module _ (n m : ℕ) where
-  -- the last check of find, on n rows and m places
-  book-fits : Bool → Result Unit FinderFault
-  book-fits e = cond (ltb m n || e) (Err BookSize) (Ok tt)
+okay : Result Unit FinderFault
+okay = Ok tt
 
-  room-by : (a b c e : Bool) → cond a (Err (Case Unopened)) (cond b (Err (Case SlipOut)) (cond c (Err SheetSize) (book-fits e))) ≡ Ok tt → n ≤ m
-  unfolding book-fits
-  room-by true b c e q = absurd (let z : _≡_ {A = ℕ} 0 1 = cc in omega arith)
-  room-by false true c e q = absurd (let z : _≡_ {A = ℕ} 0 1 = cc in omega arith)
-  room-by false false true e q = absurd (let z : _≡_ {A = ℕ} 0 1 = cc in omega arith)
-  room-by false false false e q = elim (cases-bool (ltb m n)) [
-      inl t ↦ absurd (
-        let w : _≡_ {A = Result Unit FinderFault} (Err BookSize) (Ok tt) = ap (λ (x : Bool). cond (x || e) (Err BookSize) (Ok tt)) (sym t) ∙ q in
-        let z : _≡_ {A = ℕ} 0 1 = cc in omega arith)
-    | inr f ↦ ltb-false m n f ]
+-- what find's checks let pass
+ok-by : (a b c d : Bool) → cond a (Err (Case Unopened)) (cond b (Err (Case SlipOut)) (cond c (Err SheetSize) (cond d (Err BookSize) okay))) ≡ okay
+  → (c ≡ false) × (d ≡ false)
+unfolding okay
+ok-by true b c d q = absurd (let z : _≡_ {A = ℕ} 0 1 = cc in omega arith)
+ok-by false true c d q = absurd (let z : _≡_ {A = ℕ} 0 1 = cc in omega arith)
+ok-by false false true d q = absurd (let z : _≡_ {A = ℕ} 0 1 = cc in omega arith)
+ok-by false false false true q = absurd (let z : _≡_ {A = ℕ} 0 1 = cc in omega arith)
+ok-by false false false false q = (refl, refl)
 
--- where find is not refused, the book is at least as long as the sheet
-pub accepted-room : (k : State) (n m : ℕ) → finding k n m ≡ Ok tt → n ≤ m
-unfolding book-fits
-accepted-room k n m q = room-by n m (eqb (k .task .n) 0) (k .slipOut) (eqb n 0 || ltb 4096 n) (ltb 4096 m) q
+neither : (a b : Bool) → (a || b) ≡ false → (a ≡ false) × (b ≡ false)
+neither true b q = absurd (let z : _≡_ {A = ℕ} 0 1 = cc in omega arith)
+neither false b q = (refl, q)
+
+-- where find is not refused, the sheet has at most 4,096 rows, and the book is at least as long
+pub accepted-sizes : (k : State) (n m : ℕ) → finding k n m ≡ Ok tt → (n ≤ m) × (n ≤ 4096)
+unfolding okay
+accepted-sizes k n m q =
+    let (c, d) = ok-by (eqb (k .task .n) 0) (k .slipOut) (eqb n 0 || ltb 4096 n) (ltb m n || ltb 4096 m) q in
+    (ltb-false m n (neither (ltb m n) (ltb 4096 m) d .0), ltb-false 4096 n (neither (eqb n 0) (ltb 4096 n) c .1))
 
 module _ (c : Choice) (R : ℕ → Type 0) (m : ℕ) (k : State) (s : List Row) (b : List ℕ) where
   -- a refused find changes nothing
@@ -61,7 +63,7 @@ module _ (c : Choice) (R : ℕ → Type 0) (m : ℕ) (k : State) (s : List Row) 
         s b s′ b′ (finding k (length s) (length b))
   finds-set k₁ f count s₁ s′ b₁ b′ counted go (same, grown, (lt, (is, r, good, plan, least))) wiped ls lb book =
       let n : ℕ = f .length in
-      let room : length s ≤ length b = accepted-room k (length s) (length b) go in
+      let room = accepted-sizes k (length s) (length b) go .0 in
       let le : length (take n b₁) ≡ n = length-take-le n b₁ (omega arith) in
       let tk : take n b′ ≡ take n b₁ = ap (take n) book ∙ take-at (take n b₁) (replicate (length b₁ - n) 255) n le in
       let ln : length b′ ≡ length b₁ = omega (arith, ap length book, length-append (take n b₁) (replicate (length b₁ - n) 255), length-replicate {A = ℕ} (length b₁ - n) 255) in
