@@ -23,7 +23,7 @@ use Rattle.deciders.specs.declared.search.Progress.the-variants.{Rows, Goal}
 use Rattle.deciders.specs.Rows.{row, Climbs}
 use Rattle.deciders.specs.Searches.{Finds}
 use Rattle.deciders.specs.Reaches.{shares, backward}
-use Rattle.deciders.specs.Theorems.{wanted, Wanted-leads, Leads-wanted, Wanted-blocked}
+use Rattle.deciders.specs.Theorems.{wanted, Wanted-leads, Leads-wanted, Wanted-blocked, Backward-example}
 use Rattle.deciders.proofs.Settled.{climbed-path}
 
 -- ---- a step leads backward exactly where it gives a fact that is wanted and takes none
@@ -125,3 +125,12 @@ module _ (p : Task) (sheet : List Row) where
       let path = climbed-path backward (p .steps) (p .order) sheet (i + 1) (h .2) l i (omega arith) up in
       let (e, walk, o) = back-walk p (reverse l) (p .order) (row sheet i .set) (p .standing) path (h .3) in
       →leads p (p .standing) l e (subst (λ k. Walk (p .steps) (p .standing) k e) (reverse-reverse l) walk) o
+
+-- ---- the worked example
+
+pub backward-example : Backward-example
+unfolding _∖_
+backward-example t e =
+    let u : Step = record { needs = 0b0110; gives = 0b1000; takes = 0b0010 } in
+    let q : u ≡ t = cc in
+    subst (λ (v : Step). backward v 0b1000 ≡ Some 0b0110) q refl

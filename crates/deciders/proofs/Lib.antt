@@ -6,3 +6,5 @@ pub mod Settled
 pub mod Climbs
 pub mod Forwards
 pub mod Backwards
+pub mod Closures
+pub mod Screens

@@ -62,11 +62,12 @@ pub impl Decider for Backward as BackwardDecider {
         sheet: &mut [Row],
         book: &mut [u8],
     ) -> Result<Verdict, DeciderFault> {
+        let beyond = DeciderFault::BeyondReach {
+            set: strike,
+            mark: Self::MARK,
+        };
         if !sizes_fit(sheet.len(), book.len()) {
-            return Err(DeciderFault::BeyondReach {
-                set: strike,
-                mark: Self::MARK,
-            });
+            return Err(beyond);
         }
         let gone = strike | problem.waived;
         let direction = Regression {
@@ -77,10 +78,7 @@ pub impl Decider for Backward as BackwardDecider {
             Progress::Rows(_) => Ok(Verdict::Blocked),
             // the way up leads from a set that stands to the order
             Progress::Goal(goal) => Ok(Verdict::Solvable(climb(sheet, goal, book) as u16)),
-            Progress::Full => Err(DeciderFault::BeyondReach {
-                set: strike,
-                mark: Self::MARK,
-            }),
+            Progress::Full => Err(beyond),
         }
     }
 }

@@ -61,11 +61,12 @@ pub impl Decider for Forward as ForwardDecider {
         sheet: &mut [Row],
         book: &mut [u8],
     ) -> Result<Verdict, DeciderFault> {
+        let beyond = DeciderFault::BeyondReach {
+            set: strike,
+            mark: Self::MARK,
+        };
         if !sizes_fit(sheet.len(), book.len()) {
-            return Err(DeciderFault::BeyondReach {
-                set: strike,
-                mark: Self::MARK,
-            });
+            return Err(beyond);
         }
         let gone = strike | problem.waived;
         let direction = Progression {
@@ -80,10 +81,7 @@ pub impl Decider for Forward as ForwardDecider {
                 book[..length].reverse();
                 Ok(Verdict::Solvable(length as u16))
             }
-            Progress::Full => Err(DeciderFault::BeyondReach {
-                set: strike,
-                mark: Self::MARK,
-            }),
+            Progress::Full => Err(beyond),
         }
     }
 }
