@@ -49,7 +49,7 @@ module _ (c : Choice) (R : ℕ → Type 0) (m : ℕ) (k k′ : State) (s s′ : 
   fits-unserved kind r (q, same, kept, left) = fits-err r _ b′ q
 
   fits-looked : (a : Result (ℕ × ℕ × ℕ) FinderFault) (o : Result Unit FinderFault) → finding k (length s) (length b) ≡ o → Finds c R m k a k′ s b s′ b′ o
-    → Fits (looked a) b′
+      → Fits (looked a) b′
   fits-looked (Err e) o q finds = tt
   fits-looked (Ok (x, count, n)) (Err e) q (other, same, kept, left) = absurd (let z : _≡_ {A = ℕ} 0 1 = cc in omega arith)
   fits-looked (Ok (x, count, n)) (Ok u) q (grown, (same, counted, lt, solved, book), wiped, len) =
@@ -85,7 +85,7 @@ short-reply kind line (Ok (Found s count n)) b (le, few) = omega (arith, length-
 short-reply kind line (Err e) b fits = omega (arith, short-added (added e))
 
 pub printed-some : (bytes before after : List ℕ) (o : Option ℕ) → length bytes ≤ 4104 → 8209 ≤ length before → Printed bytes before after o
-  → Printed bytes before after (Some (valueOr o 0))
+    → Printed bytes before after (Some (valueOr o 0))
 printed-some bytes before after None few room (lt, same) = absurd (omega (arith, length-line bytes))
 printed-some bytes before after (Some n) few room printed = printed
 

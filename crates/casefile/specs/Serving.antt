@@ -65,4 +65,4 @@ Serves c R m DrawAndSign k r k′ s b s′ b′ = Unserved 10 k r k′ s b s′ 
 abbrev pub Asks : Choice → (ℕ → Type 0) → ℕ → List ℕ → ℕ → State → Result Reply LineFault → State → List Row → List ℕ → List Row → List ℕ → Type 0
 Asks c R m line kind k r k′ s b s′ b′ =
     ((f : Frame) × Reads line (Ok f) × (kind ≡ kindOf f) × Serves c R m f k r k′ s b s′ b′)
-  ⊎ ((e : FrameFault) × Reads line (Err e) × (kind ≡ faultKind e) × (r ≡ Err (fault.Frame e)) × (k′ ≡ k) × (s′ ≡ s) × (b′ ≡ b))
+    ⊎ ((e : FrameFault) × Reads line (Err e) × (kind ≡ faultKind e) × (r ≡ Err (fault.Frame e)) × (k′ ≡ k) × (s′ ≡ s) × (b′ ≡ b))

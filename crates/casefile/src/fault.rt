@@ -51,7 +51,10 @@ impl LineFault {
             return Added::Nothing;
         };
         match fault {
-            FinderFault::Decider(DeciderFault::BeyondReach { set, mark }) => Added::SetAndMark(*set, *mark),
+            FinderFault::Decider(DeciderFault::BeyondReach { set, mark }) => Added::SetAndMark(
+                *set,
+                *mark,
+            ),
             FinderFault::ListFull(set) => Added::Set(*set),
             _ => Added::Nothing,
         }

@@ -28,16 +28,40 @@ pub enum Reply {
 }
 
 /// Makes the call that a frame asks for. Frames of other kinds than open, put and find are not served yet.
-pub fn serve<D: Decider, P: Picker>(frame: &Frame, case: &mut Case, decider: &mut D, picker: &P, sheet: &mut [Row], book: &mut [u8]) -> Result<Reply, LineFault>
+pub fn serve<D: Decider, P: Picker>(
+    frame: &Frame,
+    case: &mut Case,
+    decider: &mut D,
+    picker: &P,
+    sheet: &mut [Row],
+    book: &mut [u8],
+) -> Result<Reply, LineFault>
     ensures { λ r. ⌜ Serves (P·Picker .choice (now (picker .entry))) (λ s. D·Decider .reach (now (decider .entry)) (view (now (case .entry)) .task) s (length (now (sheet .entry))) (length (now (book .entry)))) (D·Decider .signed) (now (frame .entry)) (view (now (case .entry))) r (view (now (case .exit))) (now (sheet .entry)) (now (book .entry)) (now (sheet .exit)) (now (book .exit)) ⌝ }
 {
     match *frame {
-        Frame::Open { number, n, standing, order } => {
+        Frame::Open {
+            number,
+            n,
+            standing,
+            order,
+        } => {
             case.open(number, n, standing, order)?;
             Ok(Reply::Done)
         }
-        Frame::Put { place, needs, gives, takes } => {
-            case.put(place, Step { needs, gives, takes })?;
+        Frame::Put {
+            place,
+            needs,
+            gives,
+            takes,
+        } => {
+            case.put(
+                place,
+                Step {
+                    needs,
+                    gives,
+                    takes,
+                },
+            )?;
             Ok(Reply::Done)
         }
         Frame::Find => {

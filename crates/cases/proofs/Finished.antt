@@ -29,7 +29,7 @@ okay = Ok tt
 
 -- what find's checks let pass
 ok-by : (a b c d : Bool) → cond a (Err (Case Unopened)) (cond b (Err (Case SlipOut)) (cond c (Err SheetSize) (cond d (Err BookSize) okay))) ≡ okay
-  → (c ≡ false) × (d ≡ false)
+    → (c ≡ false) × (d ≡ false)
 unfolding okay
 ok-by true b c d q = absurd (let z : _≡_ {A = ℕ} 0 1 = cc in omega arith)
 ok-by false true c d q = absurd (let z : _≡_ {A = ℕ} 0 1 = cc in omega arith)
@@ -51,16 +51,16 @@ accepted-sizes k n m q =
 module _ (c : Choice) (R : ℕ → Type 0) (m : ℕ) (k : State) (s : List Row) (b : List ℕ) where
   -- a refused find changes nothing
   pub finds-refused : (r : Result (ℕ × ℕ × ℕ) FinderFault) (e : FinderFault) → finding k (length s) (length b) ≡ Err e → r ≡ Err e
-    → Finds c R m k r k s b s b (finding k (length s) (length b))
+      → Finds c R m k r k s b s b (finding k (length s) (length b))
   finds-refused r e refused is = subst (λ (o : Result Unit FinderFault). Finds c R m k r k s b s b o) (sym refused) (is, refl, refl, refl)
 
   -- the search found a set, and then sheet and book were wiped
   pub finds-set : (k₁ : Known) (f : Found) (count : ℕ) (s₁ s′ : List Row) (b₁ b′ : List ℕ) → count ≡ size (f .«set») → finding k (length s) (length b) ≡ Ok tt
-    → Searches c R m (length s) (knownOf k) (Ok f) k₁ b₁ → s′ ≡ replicate (length s₁) zeroRow → length s₁ ≡ length s → length b₁ ≡ length b
-    → b′ ≡ take (f .length) b₁ ++ replicate (length b₁ - f .length) 255
-    → Finds c R m k (Ok (f .«set», count, f .length))
-        (record { number = k .number; task = k₁ .task; groups = k₁ .groups; finding = Some (f .«set»); slipOut = k .slipOut })
-        s b s′ b′ (finding k (length s) (length b))
+      → Searches c R m (length s) (knownOf k) (Ok f) k₁ b₁ → s′ ≡ replicate (length s₁) zeroRow → length s₁ ≡ length s → length b₁ ≡ length b
+      → b′ ≡ take (f .length) b₁ ++ replicate (length b₁ - f .length) 255
+      → Finds c R m k (Ok (f .«set», count, f .length))
+      (record { number = k .number; task = k₁ .task; groups = k₁ .groups; finding = Some (f .«set»); slipOut = k .slipOut })
+      s b s′ b′ (finding k (length s) (length b))
   finds-set k₁ f count s₁ s′ b₁ b′ counted go (same, grown, (lt, (is, r, good, plan, least))) wiped ls lb book =
       let n : ℕ = f .length in
       let room = accepted-sizes k (length s) (length b) go .0 in
@@ -68,12 +68,15 @@ module _ (c : Choice) (R : ℕ → Type 0) (m : ℕ) (k : State) (s : List Row) 
       let tk : take n b′ ≡ take n b₁ = ap (take n) book ∙ take-at (take n b₁) (replicate (length b₁ - n) 255) n le in
       let ln : length b′ ≡ length b₁ = omega (arith, ap length book, length-append (take n b₁) (replicate (length b₁ - n) 255), length-replicate {A = ℕ} (length b₁ - n) 255) in
       let k′ : State = record { number = k .number; task = k₁ .task; groups = k₁ .groups; finding = Some (f .«set»); slipOut = k .slipOut } in
-      subst (λ (o : Result Unit FinderFault). Finds c R m k (Ok (f .«set», count, n)) k′ s b s′ b′ o) (sym go)
-        ( grown
-        , ( ap (λ (x : Known). record { number = k .number; task = x .task; groups = k₁ .groups; finding = Some (f .«set»); slipOut = k .slipOut }) same
-          , counted
-          , lt
-          , (is, r, good, subst (λ (x : List ℕ). Plan (strike (k .task) (f .«set»)) x) (sym tk) plan, least)
-          , book ∙ ap (λ (x : List ℕ). x ++ replicate (length b₁ - n) 255) (sym tk) ∙ ap (λ (x : ℕ). take n b′ ++ replicate (x - n) 255) (sym ln))
-        , wiped ∙ ap (λ x. replicate x zeroRow) ls
-        , ln ∙ lb)
+      subst (λ (o : Result Unit FinderFault). Finds c R m k (Ok (f .«set», count, n)) k′ s b s′ b′ o) (sym go) (
+        grown,
+        (
+          ap (λ (x : Known). record { number = k .number; task = x .task; groups = k₁ .groups; finding = Some (f .«set»); slipOut = k .slipOut }) same,
+          counted,
+          lt,
+          (is, r, good, subst (λ (x : List ℕ). Plan (strike (k .task) (f .«set»)) x) (sym tk) plan, least),
+          book ∙ ap (λ (x : List ℕ). x ++ replicate (length b₁ - n) 255) (sym tk) ∙ ap (λ (x : ℕ). take n b′ ++ replicate (x - n) 255) (sym ln),
+        ),
+        wiped ∙ ap (λ x. replicate x zeroRow) ls,
+        ln ∙ lb,
+      )

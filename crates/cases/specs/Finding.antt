@@ -36,13 +36,13 @@ found k gs o = record { number = k .number; task = k .task; groups = gs; finding
 -- what an answer says of the groups that find leaves and of the book b; c is the picker's choice, R the decider's reach, m its mark
 abbrev pub Answered : Choice → (ℕ → Type 0) → ℕ → State → Result (ℕ × ℕ × ℕ) FinderFault → State → ℕ → List ℕ → Type 0
 Answered c R m k (Ok (s, count, n)) k′ rows b =
-      (k′ ≡ found k (k′ .groups) (Some s))
+    (k′ ≡ found k (k′ .groups) (Some s))
     × (count ≡ size s)
     × (n < rows)
     × Solved c R (k .task) (k′ .groups) s n b
     × (b ≡ take n b ++ replicate (length b - n) 255)
 Answered c R m k (Err e) k′ rows b =
-      (k′ ≡ found k (k′ .groups) None)
+    (k′ ≡ found k (k′ .groups) None)
     × Stopped c R m (k .task) (k′ .groups) e
     × (b ≡ replicate (length b) 255)
 
@@ -51,7 +51,7 @@ Answered c R m k (Err e) k′ rows b =
 abbrev pub Finds : Choice → (ℕ → Type 0) → ℕ → State → Result (ℕ × ℕ × ℕ) FinderFault → State → List Row → List ℕ → List Row → List ℕ → Result Unit FinderFault → Type 0
 Finds c R m k r k′ s b s′ b′ (Err e) = (r ≡ Err e) × (k′ ≡ k) × (s′ ≡ s) × (b′ ≡ b)
 Finds c R m k r k′ s b s′ b′ (Ok u) =
-      Grown c (k .task) (k .groups) (k′ .groups)
+    Grown c (k .task) (k .groups) (k′ .groups)
     × Answered c R m k r k′ (length s) b′
     × (s′ ≡ replicate (length s) zeroRow)
     × (length b′ ≡ length b)

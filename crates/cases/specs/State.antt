@@ -28,7 +28,12 @@ pub record State : Type 0 where
 -- what the program's case holds
 abbrev pub view : Case → State
 view k = record {
-  number = k .number; task = known (k .known) .task; groups = known (k .known) .groups; finding = k .finding; slipOut = k .«slip_out» }
+  number = k .number;
+  task = known (k .known) .task;
+  groups = known (k .known) .groups;
+  finding = k .finding;
+  slipOut = k .«slip_out»;
+}
 
 -- an unopened case: the numbers are 0, sets, places and list are empty, nothing was found, and no slip is out
 abbrev pub fresh : State
@@ -63,9 +68,17 @@ abbrev pub opened : ℕ → ℕ → ℕ → ℕ → State → State
 opened c n s o k = record {
   number = c;
   task = record { n = n; standing = s; order = o; waived = k .task .waived; steps = k .task .steps };
-  groups = []; finding = None; slipOut = k .slipOut }
+  groups = [];
+  finding = None;
+  slipOut = k .slipOut;
+}
 
 -- put fills a place, empties the list and forgets the finding
 abbrev pub put : ℕ → Step → State → State
 put i t k = record {
-  number = k .number; task = holding (k .task) (set (k .task .steps) i (Some t)); groups = []; finding = None; slipOut = k .slipOut }
+  number = k .number;
+  task = holding (k .task) (set (k .task .steps) i (Some t));
+  groups = [];
+  finding = None;
+  slipOut = k .slipOut;
+}

@@ -32,7 +32,12 @@ impl Case {
         ensures { λ r. ⌜ made r (λ k. view k ≡ fresh) ⌝ }
     {
         let known = KnownGroups::new(heap)?;
-        Ok(Case { number: 0, known, finding: None, slip_out: false })
+        Ok(Case {
+            number: 0,
+            known,
+            finding: None,
+            slip_out: false,
+        })
     }
 
     /// The number of facts; 0 where the case is unopened.
@@ -59,7 +64,11 @@ impl Case {
     fn check_names(&self, set: Facts) -> Result<(), Refusal>
         ensures { λ r. ⌜ r ≡ names (view (now (self .entry))) set (Ok tt) ⌝ }
     {
-        if is_subset(set, facts_below(self.facts())) { Ok(()) } else { Err(Refusal::UnknownFact) }
+        if is_subset(set, facts_below(self.facts())) {
+            Ok(())
+        } else {
+            Err(Refusal::UnknownFact)
+        }
     }
 
     /// Opens the case: sets its number, the number of facts, the standing and the order.

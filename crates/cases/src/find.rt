@@ -28,7 +28,11 @@ fn wipe_sheet(sheet: &mut [Row])
     ensures { λ _. ⌜ now (sheet .exit) ≡ replicate (length (now (sheet .entry))) zeroRow ⌝ }
 {
     for row in sheet.iter_mut() {
-        *row = Row { set: 0, parent: 0, place: 0 };
+        *row = Row {
+            set: 0,
+            parent: 0,
+            place: 0,
+        };
     }
 }
 
@@ -59,7 +63,13 @@ impl Case {
 
     /// A smallest set of waivable facts that leaves a solvable case when struck out: the set, its size, and the length
     /// of the plan that is then in the book. The case keeps the set as its finding.
-    pub fn find<D: Decider, P: Picker>(&mut self, decider: &mut D, picker: &P, sheet: &mut [Row], book: &mut [u8]) -> Result<(Facts, u8, u16), FinderFault>
+    pub fn find<D: Decider, P: Picker>(
+        &mut self,
+        decider: &mut D,
+        picker: &P,
+        sheet: &mut [Row],
+        book: &mut [u8],
+    ) -> Result<(Facts, u8, u16), FinderFault>
         ensures finds { λ r. ⌜ Finds (P·Picker .choice (now (picker .entry))) (λ s. D·Decider .reach (now (decider .entry)) (view (now (self .entry)) .task) s (length (now (sheet .entry))) (length (now (book .entry)))) (D·Decider .signed) (view (now (self .entry))) r (view (now (self .exit))) (now (sheet .entry)) (now (book .entry)) (now (sheet .exit)) (now (book .exit)) (finding (view (now (self .entry))) (length (now (sheet .entry))) (length (now (book .entry)))) ⌝ }
         ensures listed { λ r. ⌜ Listed (knownOf (view (now (self .exit)))) ⌝ }
         ensures same { λ r. ⌜ Same (D·Decider .reach (now (decider .entry))) (D·Decider .reach (now (decider .exit))) ⌝ }

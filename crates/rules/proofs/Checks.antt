@@ -104,10 +104,12 @@ checks-once p l IsPlan (StopsAt j) a b = absurd (plan-goes-on p l j a b)
 checks-once p l IsPlan (Missing m) a b = absurd (plan-lacks-nothing p l m a b)
 checks-once p l (StopsAt i) IsPlan a b = absurd (plan-goes-on p l i b a)
 checks-once p l (StopsAt i) (StopsAt j) (h, (s, part, stop)) (h′, (s′, part′, stop′)) = elim (decLt i j) [
-    yes lt ↦ absurd (no-later (p .steps) (p .standing) l i j s s′ lt h′ part′ part stop)
+  | yes lt ↦ absurd (no-later (p .steps) (p .standing) l i j s s′ lt h′ part′ part stop)
   | no ge ↦ (elim (decLt j i) [
-      yes lt ↦ absurd (no-later (p .steps) (p .standing) l j i s′ s lt h part part′ stop′)
-    | no le ↦ ap StopsAt (omega arith) ]) ]
+    | yes lt ↦ absurd (no-later (p .steps) (p .standing) l j i s′ s lt h part part′ stop′)
+    | no le ↦ ap StopsAt (omega arith)
+  ])
+]
 checks-once p l (StopsAt i) (Missing m) a b = absurd (stop-is-early p l i m a b)
 checks-once p l (Missing m) IsPlan a b = absurd (plan-lacks-nothing p l m b a)
 checks-once p l (Missing m) (StopsAt j) a b = absurd (stop-is-early p l j m b a)

@@ -90,4 +90,5 @@ worked-examples = record {
   group-0-2 = (inside→ 0b0101 (waivable C) tt, blocked-by C (waivable C ∖ 0b0101) 4 tt);
   met-by-2 = met-by-2;
   empty-unmet = empty-unmet;
-  hopeless = λ x. no-way Hopeless x hopeless-group }
+  hopeless = λ x. no-way Hopeless x hopeless-group;
+}

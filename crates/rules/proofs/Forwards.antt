@@ -63,10 +63,12 @@ listed-plan p m i h o =
 some-or-none : (o : ℕ) (l : List ℕ) → ((i : ℕ) × (i < length l) × (o ⊆ getD l i 0)) ⊎ ((i : ℕ) → i < length l → o ⊆ getD l i 0 → ⊥)
 some-or-none o [] = inr (λ i h. absurd (omega arith))
 some-or-none o (s ∷ l) = elim (inside-dec o s) [
-    inl y ↦ inl (zero, omega arith, y)
+  | inl y ↦ inl (zero, omega arith, y)
   | inr n ↦ (elim (some-or-none o l) [
-      inl (i, h, y) ↦ inl (suc i, omega arith, y)
-    | inr m ↦ inr (λ i. elim i as (λ i. i < suc (length l) → o ⊆ getD (s ∷ l) i 0 → ⊥) [ zero ↦ (λ h. n) | suc j ↦ (λ h. m j (omega arith)) ]) ]) ]
+    | inl (i, h, y) ↦ inl (suc i, omega arith, y)
+    | inr m ↦ inr (λ i. elim i as (λ i. i < suc (length l) → o ⊆ getD (s ∷ l) i 0 → ⊥) [ zero ↦ (λ h. n) | suc j ↦ (λ h. m j (omega arith)) ])
+  ])
+]
 
 -- what stands and what is given is below 2 ^ b
 abbrev Sized : ℕ → Task → Type 0
@@ -81,16 +83,23 @@ more-power a b c h k = omega (arith, pow-mono k)
 
 given-below : (ts : List (Option Step)) → (b : ℕ) × ((i : ℕ) (t : Step) → getD ts i None ≡ Some t → t .gives < 2 ^ b)
 given-below [] = (0, λ i t e. absurd (let z : _≡_ {A = ℕ} 0 1 = cc in omega arith))
-given-below (None ∷ ts) = let (b, h) = given-below ts in (b, λ i. elim i as (λ i. (t : Step) → getD (None ∷ ts) i None ≡ Some t → t .gives < 2 ^ b) [
-    zero ↦ (λ t e. absurd (let z : _≡_ {A = ℕ} 0 1 = cc in omega arith))
-  | suc j ↦ h j ])
+given-below (None ∷ ts) = let (b, h) = given-below ts in (
+  b,
+  λ i. elim i as (λ i. (t : Step) → getD (None ∷ ts) i None ≡ Some t → t .gives < 2 ^ b) [
+    | zero ↦ (λ t e. absurd (let z : _≡_ {A = ℕ} 0 1 = cc in omega arith))
+    | suc j ↦ h j
+  ],
+)
 given-below (Some u ∷ ts) =
     let (b, h) = given-below ts in
-    let c : ℕ = b + u .gives in
-    (c, λ i. elim i as (λ i. (t : Step) → getD (Some u ∷ ts) i None ≡ Some t → t .gives < 2 ^ c) [
-        zero ↦ (λ t e. let q : u ≡ t = cc in
-          subst (λ (v : Step). v .gives < 2 ^ c) q (more-power (u .gives) (u .gives) c (below-power (u .gives)) (omega arith)))
-      | suc j ↦ (λ t e. more-power (t .gives) b c (h j t e) (omega arith)) ])
+    let c : ℕ = b + u .gives in (
+      c,
+      λ i. elim i as (λ i. (t : Step) → getD (Some u ∷ ts) i None ≡ Some t → t .gives < 2 ^ c) [
+        | zero ↦ (λ t e. let q : u ≡ t = cc in
+            subst (λ (v : Step). v .gives < 2 ^ c) q (more-power (u .gives) (u .gives) c (below-power (u .gives)) (omega arith)))
+        | suc j ↦ (λ t e. more-power (t .gives) b c (h j t e) (omega arith))
+      ],
+    )
 
 sized : (p : Task) → (b : ℕ) × Sized b p
 sized p =
@@ -102,16 +111,17 @@ walk-below : (b : ℕ) (p : Task) → Sized b p → (s : ℕ) (l : List ℕ) (e 
 walk-below b p z s [] e h q = subst (λ x. x < 2 ^ b) q h
 walk-below b p z s (i ∷ l) e h (t, is, can, on) =
     walk-below b p z (done t s) l e
-      (or-lt b (s ∖ t .takes) (t .gives) (omega (arith, sub-le s (s ∖ t .takes) (λ f. omega (arith, bits)))) (z .1 i t is)) on
+    (or-lt b (s ∖ t .takes) (t .gives) (omega (arith, sub-le s (s ∖ t .takes) (λ f. omega (arith, bits)))) (z .1 i t is)) on
 
 decides : (p : Task) (m : ℕ) → Whole forward (p .steps) (p .standing) m → ((l : List ℕ) × Plan p l) ⊎ (((l : List ℕ) × Plan p l) → ⊥)
 decides p m w = elim (some-or-none (p .order) (standings p m)) [
-    inl (i, h, o) ↦ inl (listed-plan p m i h o)
-  | inr none ↦ inr (λ (l, on). whole-blocked p m w none l on) ]
+  | inl (i, h, o) ↦ inl (listed-plan p m i h o)
+  | inr none ↦ inr (λ (l, on). whole-blocked p m w none l on)
+]
 
 pub decided : Decided
 decided p x =
     let q : Task = strike p x in
     let (b, z) = sized q in
     decides q (2 ^ b) (listing-ends forward (q .steps) (q .standing) b
-      (λ l e on. walk-below b q z (q .standing) l e (z .0) (path→walk (q .steps) (q .standing) l e on)))
+    (λ l e on. walk-below b q z (q .standing) l e (z .0) (path→walk (q .steps) (q .standing) l e on)))

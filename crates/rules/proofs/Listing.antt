@@ -71,25 +71,29 @@ at-either a s [] (zero, h, e) = inr e
 at-either a s [] (suc i, h, e) = absurd (omega arith)
 at-either a s (x ∷ l) (zero, h, e) = inl (zero, omega arith, e)
 at-either a s (x ∷ l) (suc i, h, e) = elim (at-either a s l (i, omega arith, e)) [
-    inl (j, k, q) ↦ inl (suc j, omega arith, q)
-  | inr q ↦ inr q ]
+  | inl (j, k, q) ↦ inl (suc j, omega arith, q)
+  | inr q ↦ inr q
+]
 
 -- ---- one more entry, unless it is there
 
 pub begins-adding : (s : ℕ) (l : List ℕ) → Begins l (adding s l)
 begins-adding s l = elim (listed s l) as (λ b. Begins l (cond b l (l ++ s ∷ []))) [
-    true ↦ begins-self l
-  | false ↦ record { longer = omega (arith, length-append l (s ∷ [])); same = λ i h. List·getD-append l (s ∷ []) 0 i h } ]
+  | true ↦ begins-self l
+  | false ↦ record { longer = omega (arith, length-append l (s ∷ [])); same = λ i h. List·getD-append l (s ∷ []) 0 i h }
+]
 
 pub at-adding : (s : ℕ) (l : List ℕ) → At s (adding s l)
 at-adding s l = (elim (listed s l) as (λ b. (T b → At s l) → At s (cond b l (l ++ s ∷ []))) [
-    true ↦ (λ h. h tt)
-  | false ↦ (λ h. at-end s l) ]) (listed→ s l)
+  | true ↦ (λ h. h tt)
+  | false ↦ (λ h. at-end s l)
+]) (listed→ s l)
 
 pub from-adding : (a s : ℕ) (l : List ℕ) → At a (adding s l) → At a l ⊎ (s ≡ a)
 from-adding a s l = elim (listed s l) as (λ b. At a (cond b l (l ++ s ∷ [])) → At a l ⊎ (s ≡ a)) [
-    true ↦ (λ h. inl h)
-  | false ↦ at-either a s l ]
+  | true ↦ (λ h. inl h)
+  | false ↦ at-either a s l
+]
 
 begins-made : (o : Option ℕ) (l : List ℕ) → Begins l (addingMade o l)
 begins-made None l = begins-self l
@@ -113,14 +117,16 @@ apart-push l s new apart i j i<j j<l e =
     let n = length-append l (s ∷ []) in
     let at : getD (l ++ s ∷ []) i 0 ≡ getD l i 0 = List·getD-append l (s ∷ []) 0 i (omega arith) in
     elim (decLt j (length l)) [
-        yes lt ↦ apart i j i<j lt (sym at ∙ e ∙ List·getD-append l (s ∷ []) 0 j lt)
+      | yes lt ↦ apart i j i<j lt (sym at ∙ e ∙ List·getD-append l (s ∷ []) 0 j lt)
       | no ge ↦ (let q : j ≡ length l = omega arith in
-          new (i, omega arith, sym at ∙ e ∙ ap (λ n. getD (l ++ s ∷ []) n 0) q ∙ last-is l s)) ]
+          new (i, omega arith, sym at ∙ e ∙ ap (λ n. getD (l ++ s ∷ []) n 0) q ∙ last-is l s))
+    ]
 
 pub apart-adding : (s : ℕ) (l : List ℕ) → Apart l → Apart (adding s l)
 apart-adding s l apart = (elim (listed s l) as (λ b. (At s l → T b) → Apart (cond b l (l ++ s ∷ []))) [
-    true ↦ (λ h. apart)
-  | false ↦ (λ h. apart-push l s h apart) ]) (→listed s l)
+  | true ↦ (λ h. apart)
+  | false ↦ (λ h. apart-push l s h apart)
+]) (→listed s l)
 
 apart-made : (o : Option ℕ) (l : List ℕ) → Apart l → Apart (addingMade o l)
 apart-made None l h = h
@@ -154,11 +160,13 @@ module _ (f : Successor) where
   from-expanded : (a : ℕ) (ts : List (Option Step)) (s : ℕ) (l : List ℕ) → At a (expanded f ts s l) → At a l ⊎ Made ts s a
   from-expanded a [] s l h = inl h
   from-expanded a (None ∷ ts) s l h = elim (from-expanded a ts s l h) [
-      inl k ↦ inl k
-    | inr (j, t, e, q) ↦ inr (suc j, t, e, q) ]
+    | inl k ↦ inl k
+    | inr (j, t, e, q) ↦ inr (suc j, t, e, q)
+  ]
   from-expanded a (Some u ∷ ts) s l h = elim (from-expanded a ts s (addingMade (f u s) l) h) [
-      inl k ↦ (elim (from-made a (f u s) l k) [ inl k′ ↦ inl k′ | inr q ↦ inr (zero, u, refl, q) ])
-    | inr (j, t, e, q) ↦ inr (suc j, t, e, q) ]
+    | inl k ↦ (elim (from-made a (f u s) l k) [ inl k′ ↦ inl k′ | inr q ↦ inr (zero, u, refl, q) ])
+    | inr (j, t, e, q) ↦ inr (suc j, t, e, q)
+  ]
 
   module _ (ts : List (Option Step)) (start : ℕ) where
     -- the listing after one more turn
@@ -176,9 +184,10 @@ module _ (f : Successor) where
         let e : getD l′ i 0 ≡ getD l i 0 = b .same i (omega arith) in
         let leads′ : f t (getD l i 0) ≡ Some r = subst (λ s. f t s ≡ Some r) e leads in
         elim (decLt i k) [
-            yes lt ↦ at-begins r l l′ b (closed i j t r lt (omega arith) is leads′)
+          | yes lt ↦ at-begins r l l′ b (closed i j t r lt (omega arith) is leads′)
           | no ge ↦ (let q : i ≡ k = omega arith in
-              at-expanded ts j t (getD l k 0) r l is (subst (λ n. f t (getD l n 0) ≡ Some r) q leads′)) ]
+              at-expanded ts j t (getD l k 0) r l is (subst (λ n. f t (getD l n 0) ≡ Some r) q leads′))
+        ]
 
     closed-next : (k : ℕ) (l : List ℕ) → Closed k l → Closed (suc k) (next k l)
     closed-next k l closed = go (ltb k (length l)) refl
@@ -186,7 +195,7 @@ module _ (f : Successor) where
         go : (b : Bool) → ltb k (length l) ≡ b → Closed (suc k) (cond b (expanded f ts (getD l k 0) l) l)
         go true e = closed-on k l (ltb→lt k (length l) (subst T (sym e) tt)) closed
         go false e = λ i j t r i<k i<l is leads.
-          closed i j t r (omega (arith, nltb→le k (length l) (subst (λ b. T (not b)) (sym e) tt))) i<l is leads
+            closed i j t r (omega (arith, nltb→le k (length l) (subst (λ b. T (not b)) (sym e) tt))) i<l is leads
 
     pub closed : (m : ℕ) → Closed m (listing f ts start m)
     closed zero = λ i j t r h. absurd (omega arith)
@@ -194,8 +203,9 @@ module _ (f : Successor) where
 
     begins-next : (k : ℕ) (l : List ℕ) → Begins l (next k l)
     begins-next k l = elim (ltb k (length l)) as (λ b. Begins l (cond b (expanded f ts (getD l k 0) l) l)) [
-        true ↦ begins-expanded ts (getD l k 0) l
-      | false ↦ begins-self l ]
+      | true ↦ begins-expanded ts (getD l k 0) l
+      | false ↦ begins-self l
+    ]
 
     pub begins-listing : (m : ℕ) → Begins (start ∷ []) (listing f ts start m)
     begins-listing zero = begins-self (start ∷ [])
@@ -229,10 +239,11 @@ module _ (f : Successor) where
       where
         go : (b : Bool) → ltb k (length l) ≡ b → At a (cond b (expanded f ts (getD l k 0) l) l) → Reached a
         go true e h = elim (from-expanded a ts (getD l k 0) l h) [
-            inl q ↦ ih a q
+          | inl q ↦ ih a q
           | inr (j, t, is, leads) ↦ (
               let (way, on) = ih (getD l k 0) (k, ltb→lt k (length l) (subst T (sym e) tt), refl) in
-              (way ++ j ∷ [], path-push start way (getD l k 0) j t a on is leads)) ]
+              (way ++ j ∷ [], path-push start way (getD l k 0) j t a on is leads))
+        ]
         go false e h = ih a h
 
     pub all-reached : (m : ℕ) (a : ℕ) → At a (listing f ts start m) → Reached a
@@ -255,7 +266,8 @@ module _ (f : Successor) where
         let (b, e) = stays k d in
         rw suc-add (
           begins-on (listing f ts start k) (listing f ts start (d + k)) (listing f ts start (suc (d + k))) b (begins-next (d + k) (listing f ts start (d + k))),
-          λ w. next-whole (d + k) (listing f ts start (d + k)) (omega (arith, ap length (e w))) ∙ e w)
+          λ w. next-whole (d + k) (listing f ts start (d + k)) (omega (arith, ap length (e w))) ∙ e w,
+        )
 
     pub stays-at : (k m : ℕ) → k ≤ m
         → Begins (listing f ts start k) (listing f ts start m) × (Whole f ts start k → listing f ts start m ≡ listing f ts start k)
@@ -275,8 +287,9 @@ module _ (f : Successor) where
     apart-listing zero = λ i j h k. absurd (omega arith)
     apart-listing (suc k) = elim (ltb k (length (listing f ts start k)))
         as (λ b. Apart (cond b (expanded f ts (getD (listing f ts start k) k 0) (listing f ts start k)) (listing f ts start k))) [
-        true ↦ apart-expanded ts (getD (listing f ts start k) k 0) (listing f ts start k) (apart-listing k)
-      | false ↦ apart-listing k ]
+          | true ↦ apart-expanded ts (getD (listing f ts start k) k 0) (listing f ts start k) (apart-listing k)
+          | false ↦ apart-listing k
+        ]
 
 pub listed-reached : Listed-reached
 listed-reached f ts start m i h = all-reached f ts start m (getD (listing f ts start m) i 0) (i, h, refl)
@@ -289,8 +302,9 @@ listing-stays f ts start k m h = let (b, e) = stays-at f ts start k m h in (b .l
 
 pub first-entries : First-entries
 first-entries f ts start k m i h i<k i<m = elim (decLt i (length (listing f ts start k))) [
-    yes lt ↦ lt
-  | no ge ↦ (let e = stays-at f ts start k m h .1 (omega arith) in absurd (omega (arith, ap length e))) ]
+  | yes lt ↦ lt
+  | no ge ↦ (let e = stays-at f ts start k m h .1 (omega arith) in absurd (omega (arith, ap length e)))
+]
 
 pub no-repeats : No-repeats
 no-repeats f ts start m = apart-listing f ts start m

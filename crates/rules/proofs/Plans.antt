@@ -70,7 +70,7 @@ emptied (a ∷ ts) (suc i) (suc j) t e = emptied ts i j t e
 pub emptying : Emptying
 emptying p i x l =
     easier (holding p (set (p .steps) i None)) x p x
-      (record { struck = λ f. omega arith; order = λ f. omega arith; steps = emptied (p .steps) i }) (λ f. omega arith) l
+    (record { struck = λ f. omega arith; order = λ f. omega arith; steps = emptied (p .steps) i }) (λ f. omega arith) l
 
 filled : (ts : List (Option Step)) (i : ℕ) (u : Step) → getD ts i None ≡ None
     → (j : ℕ) (t : Step) → getD ts j None ≡ Some t → getD (set ts i (Some u)) j None ≡ Some t
@@ -83,19 +83,23 @@ filled (a ∷ ts) (suc i) u free (suc j) t e = filled ts i u free j t e
 pub additional-step : Additional-step
 additional-step p i t x l free =
     easier p x (holding p (set (p .steps) i (Some t))) x
-      (record { struck = λ f. omega arith; order = λ f. omega arith; steps = filled (p .steps) i t free }) (λ f. omega arith) l
+    (record { struck = λ f. omega arith; order = λ f. omega arith; steps = filled (p .steps) i t free }) (λ f. omega arith) l
 
 pub doing : Doing
 doing p i t x is can stuck (l, on) =
     let g : ℕ = gone p x in
     let q : Task = standingAt p (done t (p .standing)) in
     let u : Step = stepWithout g t in
-    stuck (i ∷ l, (
-      u,
-      held-struck p x i ∙ ap (placeWithout g) is,
-      (λ f. omega (arith, bits, can f)),
-      leads-on q x p x (record { struck = λ f. omega arith; order = λ f. omega arith; steps = λ i t e. e })
-        (strike q x .standing) (done u (strike p x .standing)) l (λ f. omega (arith, bits)) on))
+    stuck (
+      i ∷ l,
+      (
+        u,
+        held-struck p x i ∙ ap (placeWithout g) is,
+        (λ f. omega (arith, bits, can f)),
+        leads-on q x p x (record { struck = λ f. omega arith; order = λ f. omega arith; steps = λ i t e. e })
+            (strike q x .standing) (done u (strike p x .standing)) l (λ f. omega (arith, bits)) on,
+      ),
+    )
 
 -- ---- plans are walks
 

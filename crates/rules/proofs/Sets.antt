@@ -31,7 +31,7 @@ differ-digit (suc zero) (suc (suc y)) h k = absurd (omega arith)
 differ-digit (suc (suc x)) y h k = absurd (omega arith)
 
 minus-low : (a b : ℕ) → bitXor a (bitAnd a b) % 2 ≡ a % 2 - b % 2
-minus-low a b = 
+minus-low a b =
     let e = and-low a b in
     let d = differ-digit (a % 2) (b % 2) (omega arith) (omega arith) in
     let s = xor-step a (bitAnd a b) in
@@ -77,8 +77,9 @@ some-bit = bin-ind (λ (n : ℕ). zero < n → (f : ℕ) × (bit n f ≡ 1)) (λ
   where
     step : (n : ℕ) → (zero < n / 2 → (f : ℕ) × (bit (n / 2) f ≡ 1)) → zero < n → (f : ℕ) × (bit n f ≡ 1)
     step n ih h = elim (eq-zero-or-pos (n % 2)) [
-        inl e ↦ (let (f, k) = ih (omega arith) in (suc f, bit-suc n f ∙ k))
-      | inr p ↦ (zero, omega (arith, bit-low n)) ]
+      | inl e ↦ (let (f, k) = ih (omega arith) in (suc f, bit-suc n f ∙ k))
+      | inr p ↦ (zero, omega (arith, bit-low n))
+    ]
 
 half-pow : (f : ℕ) → 2 ^ suc f / 2 ≡ 2 ^ f
 half-pow f = omega arith
@@ -97,15 +98,17 @@ single-only (suc f) (suc g) h = ap suc (single-only f g (sym (bit-suc (2 ^ suc f
 
 pub meets-or-apart : (a b : ℕ) → Meets a b ⊎ ((f : ℕ) → bit a f + bit b f ≤ 1)
 meets-or-apart a b = elim (eq-zero-or-pos (bitAnd a b)) [
-    inl e ↦ inr (λ f. omega (arith, bits, ap (λ (x : ℕ). bit x f) e, bit-none f))
-  | inr p ↦ (let (f, k) = some-bit (bitAnd a b) p in inl (f, omega (arith, bits, bit-and a b f), omega (arith, bits, bit-and a b f))) ]
+  | inl e ↦ inr (λ f. omega (arith, bits, ap (λ (x : ℕ). bit x f) e, bit-none f))
+  | inr p ↦ (let (f, k) = some-bit (bitAnd a b) p in inl (f, omega (arith, bits, bit-and a b f), omega (arith, bits, bit-and a b f)))
+]
 
 -- ---- how many facts
 
 pub none-below : (a : ℕ) → a ⊆ zero → a ≡ zero
 none-below a h = elim (eq-zero-or-pos a) [
-    inl e ↦ e
-  | inr p ↦ (let (f, k) = some-bit a p in absurd (omega (arith, h f, bit-none f))) ]
+  | inl e ↦ e
+  | inr p ↦ (let (f, k) = some-bit a p in absurd (omega (arith, h f, bit-none f)))
+]
 
 halves : (a b : ℕ) → a ⊆ b → a / 2 ⊆ b / 2
 halves a b h f = omega (arith, h (suc f), bit-suc a f, bit-suc b f)
@@ -119,7 +122,7 @@ ones-same = bin-ind (λ (n : ℕ). (a : ℕ) → a ⊆ n → ones n ≤ ones a �
   where
     step : (n : ℕ) → ((a : ℕ) → a ⊆ n / 2 → ones (n / 2) ≤ ones a → n / 2 ⊆ a) → (a : ℕ) → a ⊆ n → ones n ≤ ones a → n ⊆ a
     step n ih a h k zero = omega (arith, ones-step a, ones-step n, ones-sub (n / 2) (a / 2) (halves a n h), h zero, bit-low a, bit-low n)
-    step n ih a h k (suc f) = 
+    step n ih a h k (suc f) =
         let m : ones (n / 2) ≤ ones (a / 2) = omega (arith, ones-step a, ones-step n, h zero, bit-low a, bit-low n) in
         omega (arith, ih (a / 2) (halves a n h) m f, bit-suc a f, bit-suc n f)
 
@@ -145,8 +148,9 @@ bit-high (suc k) a (suc f) h i = bit-suc a f ∙ bit-high k (a / 2) f (omega ari
 
 and-not-at : (k a b f : ℕ) → a < 2 ^ k → b < 2 ^ k → bit (bitAnd a (2 ^ k - 1 - b)) f ≡ bit (a ∖ b) f
 and-not-at k a b f h i = elim (decLt f k) [
-    yes lt ↦ omega (arith, bits, flip k b f i lt)
-  | no ge ↦ omega (arith, bits, bit-high k a f h (omega arith)) ]
+  | yes lt ↦ omega (arith, bits, flip k b f i lt)
+  | no ge ↦ omega (arith, bits, bit-high k a f h (omega arith))
+]
 
 pub and-not : (k a b : ℕ) → a < 2 ^ k → b < 2 ^ k → bitAnd a (2 ^ k - 1 - b) ≡ a ∖ b
 and-not k a b h i =
@@ -157,8 +161,9 @@ and-not k a b h i =
 -- a & b != 0
 pub meets→pos : (a b : ℕ) → Meets a b → zero < bitAnd a b
 meets→pos a b (f, i, j) = elim (eq-zero-or-pos (bitAnd a b)) [
-    inl e ↦ absurd (omega (arith, bit-and a b f, ap (λ (x : ℕ). bit x f) e, bit-none f))
-  | inr p ↦ p ]
+  | inl e ↦ absurd (omega (arith, bit-and a b f, ap (λ (x : ℕ). bit x f) e, bit-none f))
+  | inr p ↦ p
+]
 
 pub pos→meets : (a b : ℕ) → zero < bitAnd a b → Meets a b
 pos→meets a b p = let (f, k) = some-bit (bitAnd a b) p in (f, omega (arith, bits, bit-and a b f), omega (arith, bits, bit-and a b f))
@@ -169,8 +174,9 @@ sub-le = bin-ind (λ (n : ℕ). (a : ℕ) → a ⊆ n → a ≤ n) (λ a h. le-o
 
 pub single-sub : (a f : ℕ) → f ∈ a → 2 ^ f ⊆ a
 single-sub a f i g = elim (eq-zero-or-pos (bit (2 ^ f) g)) [
-    inl e ↦ omega arith
-  | inr q ↦ (let s : bit (2 ^ f) g ≡ 1 = omega (arith, bits) in let e = ap (bit a) (single-only f g s) in omega (arith, bits)) ]
+  | inl e ↦ omega arith
+  | inr q ↦ (let s : bit (2 ^ f) g ≡ 1 = omega (arith, bits) in let e = ap (bit a) (single-only f g s) in omega (arith, bits))
+]
 
 or-half : (a b : ℕ) → bitOr a b / 2 ≡ bitOr (a / 2) (b / 2)
 or-half a b = or-shr a b 1
@@ -178,8 +184,19 @@ or-half a b = or-shr a b 1
 -- the facts of two sets that lie apart are counted apart
 pub ones-apart : (a b : ℕ) → ((f : ℕ) → bit a f + bit b f ≤ 1) → ones (a ∪ b) ≡ ones a + ones b
 ones-apart = bin-ind (λ (n : ℕ). (b : ℕ) → ((f : ℕ) → bit n f + bit b f ≤ 1) → ones (n ∪ b) ≡ ones n + ones b) (λ b h. omega (arith, ones-ones 0))
-    (λ n ih b h. omega (arith, ones-step n, ones-step b, ones-step (n ∪ b), or-low n b, or-half n b,
-      ap ones (or-half n b), ih (b / 2) (λ f. omega (arith, h (suc f), bit-suc n f, bit-suc b f)), h zero, bit-low n, bit-low b))
+    (λ n ih b h. omega (
+      arith,
+      ones-step n,
+      ones-step b,
+      ones-step (n ∪ b),
+      or-low n b,
+      or-half n b,
+      ap ones (or-half n b),
+      ih (b / 2) (λ f. omega (arith, h (suc f), bit-suc n f, bit-suc b f)),
+      h zero,
+      bit-low n,
+      bit-low b,
+    ))
 
 -- ---- the facts below n
 
@@ -237,19 +254,26 @@ bit-cases a f = elim (eq-zero-or-pos (bit a f)) [ inl e ↦ inl e | inr p ↦ in
 
 pub sets-mean : Sets-mean
 sets-mean = (
-    (λ a b. ((λ h f i. omega (arith, bits, h f)),
-      λ h f. elim (bit-cases a f) [ inl e ↦ omega arith | inr e ↦ omega (arith, h f e) ])),
-    (λ a b h k. same-facts b a h k),
-    (λ a b f. ((λ i. elim (bit-cases a f) [ inl e ↦ inr (omega (arith, bits, bit-or a b f)) | inr e ↦ inl e ]),
-      λ i. elim i [ inl e ↦ omega (arith, bits) | inr e ↦ omega (arith, bits) ])),
-    (λ a b f. ((λ i. (omega (arith, bits, bit-and a b f), omega (arith, bits, bit-and a b f))), λ (i, j). omega (arith, bits))),
-    (λ a b f. ((λ i. (omega (arith, bits, bit-minus a b f), λ j. omega (arith, bits, bit-minus a b f))),
-      λ (i, j). elim (bit-cases b f) [ inl e ↦ omega (arith, bits) | inr e ↦ absurd (j e) ])),
-    (λ f g. (single-only g f, λ e. ap (bit (2 ^ g)) e ∙ single-in g)),
-    (λ f n. ((λ i. elim (decLt f n) [ yes h ↦ h | no h ↦ absurd (omega (arith, bit-above n f (omega arith))) ]), bit-below n f)),
-    (λ f i. omega (arith, bit-none f)),
-    (λ a b. (inside→ a b, →inside a b)),
-    λ a b. (→apart a b, apart-and a b))
+  (λ a b. (
+    (λ h f i. omega (arith, bits, h f)),
+    λ h f. elim (bit-cases a f) [ inl e ↦ omega arith | inr e ↦ omega (arith, h f e) ],
+  )),
+  (λ a b h k. same-facts b a h k),
+  (λ a b f. (
+    (λ i. elim (bit-cases a f) [ inl e ↦ inr (omega (arith, bits, bit-or a b f)) | inr e ↦ inl e ]),
+    λ i. elim i [ inl e ↦ omega (arith, bits) | inr e ↦ omega (arith, bits) ],
+  )),
+  (λ a b f. ((λ i. (omega (arith, bits, bit-and a b f), omega (arith, bits, bit-and a b f))), λ (i, j). omega (arith, bits))),
+  (λ a b f. (
+    (λ i. (omega (arith, bits, bit-minus a b f), λ j. omega (arith, bits, bit-minus a b f))),
+    λ (i, j). elim (bit-cases b f) [ inl e ↦ omega (arith, bits) | inr e ↦ absurd (j e) ],
+  )),
+  (λ f g. (single-only g f, λ e. ap (bit (2 ^ g)) e ∙ single-in g)),
+  (λ f n. ((λ i. elim (decLt f n) [ yes h ↦ h | no h ↦ absurd (omega (arith, bit-above n f (omega arith))) ]), bit-below n f)),
+  (λ f i. omega (arith, bit-none f)),
+  (λ a b. (inside→ a b, →inside a b)),
+  λ a b. (→apart a b, apart-and a b),
+)
 
 pub sizes-mean : Sizes-mean
 unfolding ones
@@ -259,8 +283,9 @@ sizes-mean = (refl, size-single, λ a b h. ones-apart a b (apart→ a b h))
 
 pub share-test : (a b : ℕ) → T (not (eqb (a ∩ b) 0)) → Meets a b
 share-test a b h = elim (eq-zero-or-pos (a ∩ b)) [
-    inl e ↦ absurd (T-not (eqb (a ∩ b) 0) h (subst (λ (x : ℕ). T (eqb x 0)) (sym e) tt))
-  | inr p ↦ pos→meets a b p ]
+  | inl e ↦ absurd (T-not (eqb (a ∩ b) 0) h (subst (λ (x : ℕ). T (eqb x 0)) (sym e) tt))
+  | inr p ↦ pos→meets a b p
+]
 
 pub test-share : (a b : ℕ) → Meets a b → T (not (eqb (a ∩ b) 0))
 test-share a b m = go (eqb (a ∩ b) 0) refl

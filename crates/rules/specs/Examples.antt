@@ -16,8 +16,12 @@ stepOf needs gives takes = Some (record { needs = needs; gives = gives; takes = 
 -- Four facts; fact 1 stands and fact 3 is ordered. Step 0 needs 1 and 2, gives 3 and takes 1; step 1 needs 0 and gives 2.
 abbrev pub C : Task
 C = record {
-  n = 4; standing = 0b0010; order = 0b1000; waived = 0;
-  steps = stepOf 0b0110 0b1000 0b0010 ∷ stepOf 0b0001 0b0100 0 ∷ replicate 62 None }
+  n = 4;
+  standing = 0b0010;
+  order = 0b1000;
+  waived = 0;
+  steps = stepOf 0b0110 0b1000 0b0010 ∷ stepOf 0b0001 0b0100 0 ∷ replicate 62 None;
+}
 
 -- One fact, ordered and not standing, and no steps.
 abbrev pub Hopeless : Task

@@ -49,7 +49,7 @@ Whole f ts start m = length (listing f ts start m) ≤ m
 abbrev pub Settles : Successor → List (Option Step) → ℕ → (ℕ → Type 0) → ℕ → Type 0
 Settles f ts start Wanted m =
     Whole f ts start m
-  ⊎ ((i : ℕ) × (i < m) × (i < length (listing f ts start m)) × Wanted (getD (listing f ts start m) i 0))
+    ⊎ ((i : ℕ) × (i < m) × (i < length (listing f ts start m)) × Wanted (getD (listing f ts start m) i 0))
 
 -- the steps at the places l, one after another, make the entry e of the entry s
 abbrev pub Path : Successor → List (Option Step) → ℕ → List ℕ → ℕ → Type 0

@@ -18,5 +18,5 @@ use Rattle.rules.specs.Sets.{_∩_}
 abbrev pub putRefusal : List (Option Step) → ℕ → Step → Result Unit Refusal
 putRefusal ts i t =
     cond (eqb (t .gives ∩ t .takes) 0)
-      (cond (ltb i 64) (cond (isSome (getD ts i None)) (Err PlaceTaken) (Ok tt)) (Err NoSuchPlace))
-      (Err GivesAndTakes)
+    (cond (ltb i 64) (cond (isSome (getD ts i None)) (Err PlaceTaken) (Ok tt)) (Err NoSuchPlace))
+    (Err GivesAndTakes)

@@ -63,7 +63,8 @@ strike p x = record {
   standing = p .standing ∖ gone p x;
   order = p .order ∖ gone p x;
   waived = p .waived;
-  steps = map (placeWithout (gone p x)) (p .steps) }
+  steps = map (placeWithout (gone p x)) (p .steps);
+}
 
 -- with x struck out there is a plan, of some length
 abbrev pub Solvable : Task → ℕ → Type 0

@@ -12,7 +12,6 @@ infix 50 _⊆_
 infixl 65 _∖_
 infixl 65 _∪_
 infixl 65 _∩_
-
 -- 1 where the fact f is in the set s, and 0 where it is not
 unfoldable pub bit : ℕ → ℕ → ℕ
 bit s f = s / 2 ^ f % 2
@@ -61,7 +60,7 @@ inside a b = eqb (a ∖ b) 0
 -- The operations on numbers are those on sets, fact by fact.
 abbrev pub Sets-mean : Type 0
 Sets-mean =
-      ((a b : ℕ) → (a ⊆ b) ↔ ((f : ℕ) → f ∈ a → f ∈ b))
+    ((a b : ℕ) → (a ⊆ b) ↔ ((f : ℕ) → f ∈ a → f ∈ b))
     × ((a b : ℕ) → a ⊆ b → b ⊆ a → a ≡ b)
     × ((a b f : ℕ) → (f ∈ a ∪ b) ↔ ((f ∈ a) ⊎ (f ∈ b)))
     × ((a b f : ℕ) → (f ∈ a ∩ b) ↔ ((f ∈ a) × (f ∈ b)))
@@ -75,6 +74,6 @@ Sets-mean =
 -- Counting facts: the empty set has none, a single fact counts 1, and sets that share no fact count apart.
 abbrev pub Sizes-mean : Type 0
 Sizes-mean =
-      (size 0 ≡ 0)
+    (size 0 ≡ 0)
     × ((f : ℕ) → size (single f) ≡ 1)
     × ((a b : ℕ) → (Meets a b → ⊥) → size (a ∪ b) ≡ size a + size b)

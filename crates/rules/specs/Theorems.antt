@@ -80,8 +80,8 @@ Reached-listed = (f : Successor) (ts : List (Option Step)) (start m : ℕ) → W
 abbrev pub Listing-stays : Type 0
 Listing-stays = (f : Successor) (ts : List (Option Step)) (start k m : ℕ) → k ≤ m
     → (length (listing f ts start k) ≤ length (listing f ts start m))
-      × ((i : ℕ) → i < length (listing f ts start k) → getD (listing f ts start m) i 0 ≡ getD (listing f ts start k) i 0)
-      × (Whole f ts start k → listing f ts start m ≡ listing f ts start k)
+    × ((i : ℕ) → i < length (listing f ts start k) → getD (listing f ts start m) i 0 ≡ getD (listing f ts start k) i 0)
+    × (Whole f ts start k → listing f ts start m ≡ listing f ts start k)
 
 -- The first k entries of a listing that went on longer were there once k entries had been expanded.
 abbrev pub First-entries : Type 0

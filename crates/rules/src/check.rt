@@ -35,7 +35,10 @@ impl Drop for StandingGuard<'_> {
         ensures { λ _. ⌜ now (self .exit .0) ≡ self .entry .saved ⌝ }
     {
         *self.standing = self.saved;
-        let StandingGuard { standing: _, saved: _ } = self;
+        let StandingGuard {
+            standing: _,
+            saved: _,
+        } = self;
     }
 }
 
@@ -65,7 +68,10 @@ impl Problem {
         let order = difference(self.order, gone);
         let table = &self.table;
         let saved = self.standing;
-        let walk = StandingGuard { standing: &mut self.standing, saved };
+        let walk = StandingGuard {
+            standing: &mut self.standing,
+            saved,
+        };
         walk.standing.facts = difference(saved.facts, gone);
         for (i, place) in places.iter().enumerate() {
             if !do_step(table, *place, gone, walk.standing) {
@@ -73,6 +79,10 @@ impl Problem {
             }
         }
         let missing = difference(order, walk.standing.facts);
-        if missing == 0 { PlanCheck::IsPlan } else { PlanCheck::Missing(missing) }
+        if missing == 0 {
+            PlanCheck::IsPlan
+        } else {
+            PlanCheck::Missing(missing)
+        }
     }
 }

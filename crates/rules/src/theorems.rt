@@ -11,8 +11,7 @@ ghost use Rattle.rules.specs.Examples.{Worked-examples};
 pub fn sets_mean_their_facts()
     ensures sets { λ _. ⌜ Sets-mean ⌝ }
     ensures sizes { λ _. ⌜ Sizes-mean ⌝ }
-{
-}
+{}
 
 /// Striking out more, standing more, ordering less or an additional step never blocks, and doing a step never unblocks.
 pub fn more_never_blocks()
@@ -22,8 +21,7 @@ pub fn more_never_blocks()
     ensures adding { λ _. ⌜ Additional-step ⌝ }
     ensures emptying { λ _. ⌜ Emptying ⌝ }
     ensures doing { λ _. ⌜ Doing ⌝ }
-{
-}
+{}
 
 /// Good sets meet groups, and so a smallest set that meets groups is no larger than any good set.
 pub fn good_sets_meet_groups()
@@ -31,8 +29,7 @@ pub fn good_sets_meet_groups()
     ensures hitting { λ _. ⌜ Hitting ⌝ }
     ensures none { λ _. ⌜ No-way ⌝ }
     ensures largest { λ _. ⌜ Largest-outside ⌝ }
-{
-}
+{}
 
 /// A listing finds exactly what can be reached, whatever a step makes of an entry.
 pub fn listings_find_what_is_reached()
@@ -42,8 +39,7 @@ pub fn listings_find_what_is_reached()
     ensures first { λ _. ⌜ First-entries ⌝ }
     ensures once { λ _. ⌜ No-repeats ⌝ }
     ensures ends { λ _. ⌜ Listing-ends ⌝ }
-{
-}
+{}
 
 /// Plans are walks that end with the order standing, and whether there is one is decided by the forward listing.
 pub fn plans_are_decided()
@@ -52,11 +48,9 @@ pub fn plans_are_decided()
     ensures blocked { λ _. ⌜ Whole-blocked ⌝ }
     ensures plan { λ _. ⌜ Listed-plan ⌝ }
     ensures decided { λ _. ⌜ Decided ⌝ }
-{
-}
+{}
 
 /// The worked examples, each a statement about the definitions.
 pub fn worked_examples_hold()
     ensures { λ _. ⌜ Worked-examples ⌝ }
-{
-}
+{}

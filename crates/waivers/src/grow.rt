@@ -35,7 +35,13 @@ fn only(f: u8) -> Facts
 }
 
 /// A minimal group that shares no fact with the blocked set `picked`: the waivable facts outside a largest blocked set around it.
-pub(crate) fn minimal_group<D: Decider>(problem: &Problem, picked: Facts, decider: &mut D, sheet: &mut [Row], book: &mut [u8]) -> Result<Facts, DeciderFault>
+pub(crate) fn minimal_group<D: Decider>(
+    problem: &Problem,
+    picked: Facts,
+    decider: &mut D,
+    sheet: &mut [Row],
+    book: &mut [u8],
+) -> Result<Facts, DeciderFault>
     requires sized { ⌜ now problem .n ≤ 32 ⌝ }
     requires inside { ⌜ picked ⊆ waivable (task (now problem)) ⌝ }
     requires blocked { ⌜ Blocked (task (now problem)) picked ⌝ }

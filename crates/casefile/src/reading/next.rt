@@ -54,12 +54,25 @@ struct Answer {
 }
 
 /// Makes the call that a line asks for.
-fn ask<D: Decider, P: Picker>(line: &[u8], case: &mut Case, decider: &mut D, picker: &P, sheet: &mut [Row], book: &mut [u8]) -> Answer
+fn ask<D: Decider, P: Picker>(
+    line: &[u8],
+    case: &mut Case,
+    decider: &mut D,
+    picker: &P,
+    sheet: &mut [Row],
+    book: &mut [u8],
+) -> Answer
     ensures { λ r. ⌜ Asks (P·Picker .choice (now (picker .entry))) (λ s. D·Decider .reach (now (decider .entry)) (view (now (case .entry)) .task) s (length (now (sheet .entry))) (length (now (book .entry)))) (D·Decider .signed) (now (line .entry)) (r .kind) (view (now (case .entry))) (r .reply) (view (now (case .exit))) (now (sheet .entry)) (now (book .entry)) (now (sheet .exit)) (now (book .exit)) ⌝ }
 {
     match read_frame(line) {
-        Ok(frame) => Answer { kind: frame.kind(), reply: serve(&frame, case, decider, picker, sheet, book) },
-        Err(fault) => Answer { kind: fault.kind(), reply: Err(LineFault::Frame(fault)) },
+        Ok(frame) => Answer {
+            kind: frame.kind(),
+            reply: serve(&frame, case, decider, picker, sheet, book),
+        },
+        Err(fault) => Answer {
+            kind: fault.kind(),
+            reply: Err(LineFault::Frame(fault)),
+        },
     }
 }
 
@@ -69,9 +82,20 @@ fn report(answer: &Answer, line: u16, book: &[u8], buffer: &mut [u8]) -> Option<
 {
     match answer.reply {
         Ok(Reply::Done) => write_accepted(answer.kind, buffer),
-        Ok(Reply::Found { set, size, length }) => write_found(set, size, book.get(0..length as usize)?, buffer),
+        Ok(Reply::Found { set, size, length }) => write_found(
+            set,
+            size,
+            book.get(0..length as usize)?,
+            buffer,
+        ),
         Err(fault) => {
-            let refused = Refused { kind: answer.kind, refusal: fault.number(), layer: fault.layer(), line, added: fault.added() };
+            let refused = Refused {
+                kind: answer.kind,
+                refusal: fault.number(),
+                layer: fault.layer(),
+                line,
+                added: fault.added(),
+            };
             write_refused(&refused, buffer)
         }
     }
@@ -82,19 +106,37 @@ impl Reading {
     pub fn start() -> Reading
         ensures { λ r. ⌜ (r .position ≡ 0) × (r .lines ≡ 0) ⌝ }
     {
-        Reading { position: 0, lines: 0 }
+        Reading {
+            position: 0,
+            lines: 0,
+        }
     }
 
     /// Reads the next line of the text, makes the call that it asks for, and writes its report line to the front of the
     /// buffer, of which the rest stays.
-    pub fn next<D: Decider, P: Picker>(&mut self, text: &[u8], case: &mut Case, decider: &mut D, picker: &P, sheet: &mut [Row], book: &mut [u8], buffer: &mut [u8]) -> Progress
+    pub fn next<D: Decider, P: Picker>(
+        &mut self,
+        text: &[u8],
+        case: &mut Case,
+        decider: &mut D,
+        picker: &P,
+        sheet: &mut [Row],
+        book: &mut [u8],
+        buffer: &mut [u8],
+    ) -> Progress
         ensures { λ r. ⌜ Reads-next (P·Picker .choice (now (picker .entry))) (λ s. D·Decider .reach (now (decider .entry)) (view (now (case .entry)) .task) s (length (now (sheet .entry))) (length (now (book .entry)))) (D·Decider .signed) (now (text .entry)) (now (self .entry) .position) (now (self .entry) .lines) (now (self .exit) .position) (now (self .exit) .lines) (view (now (case .entry))) (view (now (case .exit))) (now (sheet .entry)) (now (sheet .exit)) (now (book .entry)) (now (book .exit)) (now (buffer .entry)) (now (buffer .exit)) r ⌝ }
     {
         if buffer.len() < MIN_REPORT {
             return Progress::BufferTooShort;
         }
         if text.len() > MAX_TEXT {
-            let refused = Refused { kind: 0, refusal: 19, layer: 1, line: 0, added: Added::Nothing };
+            let refused = Refused {
+                kind: 0,
+                refusal: 19,
+                layer: 1,
+                line: 0,
+                added: Added::Nothing,
+            };
             return Progress::TextTooLong(write_refused(&refused, buffer).unwrap_or(0));
         }
         let Some((line, next)) = next_line(text, self.position) else {

@@ -6,8 +6,8 @@ ghost use lib.ListN.{length, getD, set, replicate};
 ghost use Rattle.std.specs.declared.option.Option.the-variants.{Some, None};
 ghost use Rattle.rules.specs.Refusals.{after};
 ghost use Rattle.rules.specs.Places.{putRefusal};
-use crate::refusal::Refusal;
 use crate::facts::meets;
+use crate::refusal::Refusal;
 use crate::step::Step;
 use crate::table::PLACES;
 use crate::table::StepTable;
@@ -32,7 +32,11 @@ impl StepTable {
     pub fn get(&self, place: u8) -> Option<Step>
         ensures { λ r. ⌜ r ≡ getD (now (self .entry) .places) place None ⌝ }
     {
-        if place < PLACES { self.places[place as usize] } else { None }
+        if place < PLACES {
+            self.places[place as usize]
+        } else {
+            None
+        }
     }
 
     /// Fills an empty place. The other 63 places keep their steps.

@@ -28,7 +28,13 @@ impl KnownGroups {
         ensures { λ r. ⌜ made r (λ k. known k ≡ nothing) ⌝ }
     {
         let groups = Vec::with_capacity(heap, MAX_GROUPS)?;
-        let problem = Problem { n: 0, standing: Standing { facts: 0 }, order: 0, waived: 0, table: StepTable::new() };
+        let problem = Problem {
+            n: 0,
+            standing: Standing { facts: 0 },
+            order: 0,
+            waived: 0,
+            table: StepTable::new(),
+        };
         Ok(KnownGroups { problem, groups })
     }
 

@@ -9,4 +9,5 @@ unfolding inside
 returns c = record {
   test = ap (λ x. eqb x 0) (c .difference .ensures);
   holds = λ h. inside→ (c .args .a) (c .args .b) (subst (λ x. T (eqb x 0)) (c .difference .ensures) h);
-  fails = λ h. subst (λ x. T (eqb x 0)) (sym (c .difference .ensures)) (→inside (c .args .a) (c .args .b) h) }
+  fails = λ h. subst (λ x. T (eqb x 0)) (sym (c .difference .ensures)) (→inside (c .args .a) (c .args .b) h);
+}

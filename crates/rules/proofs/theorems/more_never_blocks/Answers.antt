@@ -3,4 +3,10 @@ use Rattle.rules.proofs.theorems.more_never_blocks.Needs as need
 
 pub returns : need.returns
 returns c = record {
-  striking = striking-more; standing = standing-more; ordering = ordering-less; adding = additional-step; emptying = emptying; doing = doing }
+  striking = striking-more;
+  standing = standing-more;
+  ordering = ordering-less;
+  adding = additional-step;
+  emptying = emptying;
+  doing = doing;
+}

@@ -17,11 +17,12 @@ returns-in-Break-check-find g c =
     let q = err-from-errBy (c .from-residual .result) (c .from-residual .ensures .1) in
     record {
       finds = finds-refused (g .P·Picker .choice (c .args .picker .now))
-        (λ s. g .D·Decider .reach (c .args .decider .now) (k .task) s (length (c .args .sheet .now)) (length (c .args .book .now))) (g .D·Decider .signed)
-        k (c .args .sheet .now) (c .args .book .now) (c .from-residual .result) (c .in-Break-check-find .field-0 .0)
-        (sym (c .in-Break-check-find .ensures tt)) (q .1 ∙ ap Err (q .2));
+          (λ s. g .D·Decider .reach (c .args .decider .now) (k .task) s (length (c .args .sheet .now)) (length (c .args .book .now))) (g .D·Decider .signed)
+          k (c .args .sheet .now) (c .args .book .now) (c .from-residual .result) (c .in-Break-check-find .field-0 .0)
+          (sym (c .in-Break-check-find .ensures tt)) (q .1 ∙ ap Err (q .2));
       listed = listed (c .args .self .now .known);
-      same = same-self (g .D·Decider .reach (c .args .decider .now)) }
+      same = same-self (g .D·Decider .reach (c .args .decider .now));
+    }
 
 pub returns-in-Ok : need.returns-in-Ok
 returns-in-Ok g c =
@@ -34,4 +35,5 @@ returns-in-Ok g c =
           (c .wipe-sheet .last .sheet) (l .book) (c .wipe-book .last .book) (c .size .ensures) (sym (c .in-Continue-check-find .ensures tt)) (c .in-Ok .ensures tt .searches)
           (c .wipe-sheet .ensures) (c .find-smallest-searched .kept .sheet) (c .find-smallest-searched .kept .book) (c .wipe-book .ensures);
       listed = c .in-Ok .ensures tt .listed;
-      same = c .in-Ok .ensures tt .same }
+      same = c .in-Ok .ensures tt .same;
+    }

@@ -24,9 +24,13 @@ returns-then-is-some c =
 
 pub ghost-self : need.ghost-self
 ghost-self c = (
-    length-set (c .args .self .now .places) (c .args .place) _ ∙ c .args .self .now .count,
-    (each-set (λ t. bitAnd (t .gives) (t .takes) ≡ 0) (c .args .self .now .places) (c .args .place) (c .args .step)
-      (no-clash (c .args .step) (sym (c .meets .ensures .test) ∙ c .if-meets .left)) (c .args .self .now .consistent), tt))
+  length-set (c .args .self .now .places) (c .args .place) _ ∙ c .args .self .now .count,
+  (
+    each-set (λ t. bitAnd (t .gives) (t .takes) ≡ 0) (c .args .self .now .places) (c .args .place) (c .args .step)
+        (no-clash (c .args .step) (sym (c .meets .ensures .test) ∙ c .if-meets .left)) (c .args .self .now .consistent),
+    tt,
+  ),
+)
 
 pub returns : need.returns
 returns c =

@@ -11,7 +11,20 @@ pub ghost-self-else-is-ok : need.ghost-self-else-is-ok
 ghost-self-else-is-ok c =
     let k = c .args .self .now in
     let same = refused-same (c .put-put .result) (λ ts. set ts (c .args .place) (Some (c .args .step))) (k .problem .table .places)
-      (c .put-put .last .self .places) (sym (c .is-ok .ensures .value) ∙ c .if-is-ok .left) (c .put-put .ensures .after) in
-    (k .sized, (k .few, (k .room, (k .apart,
-      (each-same (task (k .problem)) (holding (task (k .problem)) (c .put-put .last .self .places)) (vec-items (k .groups)) (vec-len (k .groups))
-        (ap (holding (task (k .problem))) same) (k .each), tt)))))
+    (c .put-put .last .self .places) (sym (c .is-ok .ensures .value) ∙ c .if-is-ok .left) (c .put-put .ensures .after) in (
+      k .sized,
+      (
+        k .few,
+        (
+          k .room,
+          (
+            k .apart,
+            (
+              each-same (task (k .problem)) (holding (task (k .problem)) (c .put-put .last .self .places)) (vec-items (k .groups)) (vec-len (k .groups))
+                  (ap (holding (task (k .problem))) same) (k .each),
+              tt,
+            ),
+          ),
+        ),
+      ),
+    )
