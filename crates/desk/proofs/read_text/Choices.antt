@@ -1,7 +1,7 @@
 use Prim.Native.Nat.{_≤_}
 use lib.ListN.{length}
 use mathlib.Core.Path.{_≡_}
-use Rattle.finder.proofs.read_text.Given as given
+use Rattle.desk.proofs.read_text.Given as given
 
 -- what was read lies within the buffer
 abbrev pub Inv-loop : given.InvT-loop
