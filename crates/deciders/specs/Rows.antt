@@ -24,7 +24,7 @@ pub record Sound (B : Row → Row → Type 0) (start : ℕ) (sheet : List Row) (
   pub back : (i : ℕ) → 0 < i → i < n → row sheet i .parent < i
   pub came : (i : ℕ) → 0 < i → i < n → B (row sheet i) (row sheet (row sheet i .parent))
 
--- reading the places from the row j on, each at a row and then on to the row that it came from, one comes to the first row
+-- reading the places from the row j on, each at a row and then on to the row that it came from, one comes to the row i
 abbrev pub Climbs : List Row → ℕ → List ℕ → ℕ → Type 0
 Climbs sheet j [] i = j ≡ i
 Climbs sheet j (p ∷ l) i = (0 < j) × (row sheet j .place ≡ p) × Climbs sheet (row sheet j .parent) l i

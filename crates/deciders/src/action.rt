@@ -27,7 +27,7 @@ impl Action {
 }
 
 /// Writes the steps without the facts of `gone` to the front of `actions`, leaves the empty places out, and says how many there are.
-pub fn strike_out(places: &[Option<Step>], gone: Facts, actions: &mut [Action]) -> usize
+pub(crate) fn strike_out(places: &[Option<Step>], gone: Facts, actions: &mut [Action]) -> usize
     requires { ⌜ length (now places) ≡ 64 ⌝ ∗ ⌜ length (now actions) ≡ 64 ⌝ }
     ensures few { λ r. ⌜ r ≤ 64 ⌝ }
     ensures actions { λ r. ⌜ take r (now (actions .exit)) ≡ actionsOf gone 0 (now (places .entry)) ⌝ }

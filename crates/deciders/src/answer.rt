@@ -1,6 +1,7 @@
 //! What a decider answers.
 
 ghost use mathlib.Core.Path.{_≡_};
+ghost use Rattle.std.specs.Orderings.{Decides};
 ghost use Rattle.deciders.specs.Answers.{reported};
 use rules::Facts;
 
@@ -14,11 +15,26 @@ pub enum Verdict {
 }
 
 /// Why a decider has no answer.
-#[derive(Clone, Copy, PartialEq, Eq, Debug)]
+#[derive(Clone, Copy, Debug)]
 pub enum DeciderFault {
     /// The problem with this set struck out is outside the reach of the decider with this mark.
     BeyondReach { set: Facts, mark: u8 },
 }
+
+pub impl PartialEq<DeciderFault> for DeciderFault as DeciderFaultPartialEq {
+    ghost equals = { λ a b r. Decides r (a ≡ b) };
+
+    fn eq(&self, other: &DeciderFault) -> bool {
+        let DeciderFault::BeyondReach { set, mark } = *self;
+        let DeciderFault::BeyondReach {
+            set: other_set,
+            mark: other_mark,
+        } = *other;
+        set == other_set && mark == other_mark
+    }
+}
+
+pub impl Eq for DeciderFault as DeciderFaultEq {}
 
 impl DeciderFault {
     /// The fault's number in report lines.

@@ -7,7 +7,7 @@ ghost use Rattle.deciders.specs.Rows.{row as rowOf, Climbs};
 use crate::row::Row;
 
 /// Writes the places from the row `from` up to the first row to the front of the book, and says how many there are.
-pub fn climb(sheet: &[Row], from: usize, book: &mut [u8]) -> usize
+pub(crate) fn climb(sheet: &[Row], from: usize, book: &mut [u8]) -> usize
     requires fits { ⌜ from < length (now sheet) ⌝ ∗ ⌜ from < length (now book) ⌝ ∗ ⌜ from < 4096 ⌝ }
     requires back { ⌜ ((i : ℕ) → 0 < i → i ≤ from → rowOf (now sheet) i .parent < i) ⌝ }
     ensures few { λ r. ⌜ r ≤ from ⌝ }

@@ -38,7 +38,7 @@ fn close(actions: &[Action], standing: Facts) -> Facts
 }
 
 /// The closure of a standing under the steps at `places` without the facts of `gone`.
-pub fn closure(standing: Facts, places: &[Option<Step>], gone: Facts) -> Facts
+pub(crate) fn closure(standing: Facts, places: &[Option<Step>], gone: Facts) -> Facts
     requires { ⌜ length (now places) ≡ 64 ⌝ }
     ensures { λ r. ⌜ Closure (map (placeWithout gone) (now (places .entry))) standing r ⌝ }
 {

@@ -28,7 +28,7 @@ fn hash(set: Facts) -> usize
 
 impl Index {
     /// An index over no rows.
-    pub fn new() -> Index
+    pub(crate) fn new() -> Index
         ensures { λ r. ⌜ Indexed (r .heads) (r .links) [] ⌝ }
     {
         Index {
@@ -38,7 +38,7 @@ impl Index {
     }
 
     /// Whether one of the first `n` rows holds `wanted`.
-    pub fn has(&self, sheet: &[Row], n: usize, wanted: Facts) -> bool
+    pub(crate) fn has(&self, sheet: &[Row], n: usize, wanted: Facts) -> bool
         requires fits { ⌜ n ≤ length (now sheet) ⌝ ∗ ⌜ n ≤ 4096 ⌝ }
         requires index { ⌜ Indexed (now self .heads) (now self .links) (entries (now sheet) n) ⌝ }
         ensures { λ r. ⌜ r ≡ listed wanted (entries (now (sheet .entry)) n) ⌝ }
@@ -54,7 +54,7 @@ impl Index {
     }
 
     /// Writes the row `n`, and enters it.
-    pub fn add(&mut self, sheet: &mut [Row], n: usize, row: Row)
+    pub(crate) fn add(&mut self, sheet: &mut [Row], n: usize, row: Row)
         requires fits { ⌜ n < length (now sheet) ⌝ ∗ ⌜ n < 4096 ⌝ }
         requires index { ⌜ Indexed (now self .heads) (now self .links) (entries (now sheet) n) ⌝ }
         ensures sheet { λ _. ⌜ now (sheet .exit) ≡ written (now (sheet .entry)) n row ⌝ }

@@ -11,7 +11,7 @@ pub const MAX_ROWS: usize = 4096;
 pub const MAX_PLACES: usize = 4096;
 
 /// Whether a sheet of so many rows and a plan book of so many places keep the limits.
-pub fn sizes_fit(rows: usize, places: usize) -> bool
+pub(crate) fn sizes_fit(rows: usize, places: usize) -> bool
     ensures holds { λ r. ⌜ (T r → Sized rows places) ⌝ }
     ensures fails { λ r. ⌜ (Sized rows places → T r) ⌝ }
 {

@@ -125,7 +125,7 @@ fn list<D: Direction>(
 }
 
 /// Searches from `start` on by the steps at `places` without the facts of `gone`, which are struck out once.
-pub fn search<D: Direction>(
+pub(crate) fn search<D: Direction>(
     direction: &D,
     start: Facts,
     places: &[Option<Step>],
