@@ -49,14 +49,26 @@ pub fn serve_input(rt: &LibcRuntime) -> Result<(), AnyError> {
     let count = read_text(&mut rt.stdin(), &mut text)?;
     let mut case = Case::new(heap)?;
     let mut decider = Screen { below: Forward };
-    let mut sheet = vec![in heap; Row { set: 0, parent: 0, place: 0 }; MAX_ROWS]?;
+    let mut sheet = vec![in heap; Row {
+        set: 0,
+        parent: 0,
+        place: 0
+    }; MAX_ROWS]?;
     let mut book = vec![in heap; 255u8; MAX_ROWS]?;
     let mut buffer = vec![in heap; 0u8; MIN_REPORT]?;
     let mut reading = Reading::start();
     let mut output = rt.stdout();
     // Each line takes a byte at least, so this many turns come past the last line.
     for _ in 0..ROOM {
-        let progress = reading.next(&text[0..count], &mut case, &mut decider, &CountingPicker, &mut sheet, &mut book, &mut buffer);
+        let progress = reading.next(
+            &text[0..count],
+            &mut case,
+            &mut decider,
+            &CountingPicker,
+            &mut sheet,
+            &mut book,
+            &mut buffer,
+        );
         match progress {
             Progress::Reported(length) => output.write_all(&buffer[0..length])?,
             Progress::TextTooLong(length) => {

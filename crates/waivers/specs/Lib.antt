@@ -4,3 +4,4 @@ pub mod Known
 pub mod Reaching
 pub mod Growing
 pub mod Searching
+pub mod Examples

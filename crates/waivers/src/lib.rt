@@ -1,9 +1,11 @@
 //! Smallest waivers: a problem with the groups that are known of it, and the search for a smallest good set.
 
+mod examples;
 mod fault;
 mod grow;
 mod known;
 
+pub use examples::all_worked_examples_hold;
 pub use fault::FinderFault;
 pub use fault::FinderFromDecider;
 pub use fault::FinderFromRefusal;
