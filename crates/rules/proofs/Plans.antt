@@ -60,7 +60,7 @@ pub standing-more : Standing-more
 standing-more p s s′ x l k =
     easier (standingAt p s) x (standingAt p s′) x (record { struck = λ f. omega arith; order = λ f. omega arith; steps = λ i t e. e }) k l
 
-emptied : (ts : List (Option Step)) (i j : ℕ) (t : Step) → getD (set ts i None) j None ≡ Some t → getD ts j None ≡ Some t
+pub emptied : (ts : List (Option Step)) (i j : ℕ) (t : Step) → getD (set ts i None) j None ≡ Some t → getD ts j None ≡ Some t
 emptied [] i j t e = e
 emptied (a ∷ ts) zero zero t e = absurd (let z : _≡_ {A = ℕ} 0 1 = cc in omega arith)
 emptied (a ∷ ts) zero (suc j) t e = e

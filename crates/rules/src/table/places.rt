@@ -1,11 +1,11 @@
-//! Reading and filling the step places.
+//! Reading, filling and emptying the step places.
 
 ghost use mathlib.Core.Path.{_≡_};
 ghost use Prim.Native.Nat.{ℕ};
 ghost use lib.ListN.{length, getD, set, replicate};
 ghost use Rattle.std.specs.declared.option.Option.the-variants.{Some, None};
 ghost use Rattle.rules.specs.Refusals.{after};
-ghost use Rattle.rules.specs.Places.{putRefusal};
+ghost use Rattle.rules.specs.Places.{putRefusal, clearRefusal};
 use crate::facts::meets;
 use crate::refusal::Refusal;
 use crate::step::Step;
@@ -54,6 +54,21 @@ impl StepTable {
             return Err(Refusal::PlaceTaken);
         }
         self.places[place as usize] = Some(step);
+        Ok(())
+    }
+
+    /// Empties a place that holds a step. The other 63 places keep their steps.
+    pub fn clear(&mut self, place: u8) -> Result<(), Refusal>
+        ensures answer { λ r. ⌜ r ≡ clearRefusal (now (self .entry) .places) place ⌝ }
+        ensures after { λ r. ⌜ now (self .exit) .places ≡ after r (λ ts. set ts place None) (now (self .entry) .places) ⌝ }
+    {
+        if place >= PLACES {
+            return Err(Refusal::NoSuchPlace);
+        }
+        if self.get(place).is_none() {
+            return Err(Refusal::PlaceEmpty);
+        }
+        self.places[place as usize] = None;
         Ok(())
     }
 }
