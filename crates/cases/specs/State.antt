@@ -13,8 +13,8 @@ use Rattle.rules.specs.declared.refusal.Refusal.{Refusal}
 use Rattle.rules.specs.declared.refusal.Refusal.the-variants.{Unopened, AlreadyOpen, SlipOut, UnknownFact}
 use Rattle.rules.specs.Sets.{_∪_, inside, below}
 use Rattle.rules.specs.Planning.{Task, holding}
-use Rattle.rules.specs.Places.{putRefusal}
-use Rattle.waivers.specs.Known.{Known, known, nothing, openRefusal}
+use Rattle.rules.specs.Places.{putRefusal, clearRefusal}
+use Rattle.waivers.specs.Known.{Known, known, nothing, openRefusal, orderRefusal, carryRefusal}
 use Rattle.cases.specs.declared.case.Case.{Case}
 
 -- the number of the case, its task, the groups that it lists, its finding, and whether a slip is out
@@ -61,6 +61,22 @@ opening k n s o = cond (eqb (k .task .n) 0) (openRefusal n s o) (Err AlreadyOpen
 abbrev pub putting : State → ℕ → Step → Result Unit Refusal
 putting k i t = usable k (names k (t .needs ∪ t .gives ∪ t .takes) (putRefusal (k .task .steps) i t))
 
+-- grant, lapse and cancel: the set names only facts of the case
+abbrev pub naming : State → ℕ → Result Unit Refusal
+naming k s = usable k (names k s (Ok tt))
+
+-- order: the set names only facts of the case, and none that is waived
+abbrev pub ordering : State → ℕ → Result Unit Refusal
+ordering k s = usable k (names k s (orderRefusal (k .task) s))
+
+-- withdraw: the place is one of 64 and holds a step
+abbrev pub withdrawing : State → ℕ → Result Unit Refusal
+withdrawing k i = usable k (clearRefusal (k .task .steps) i)
+
+-- carry: the place is one of 64 and holds a step of which no need is missing
+abbrev pub carrying : State → ℕ → Result Unit Refusal
+carrying k i = usable k (carryRefusal (k .task) i)
+
 -- ---- what accepted calls do
 
 -- open sets number, number of facts, standing and order
@@ -79,6 +95,16 @@ put i t k = record {
   number = k .number;
   task = holding (k .task) (set (k .task .steps) i (Some t));
   groups = [];
+  finding = None;
+  slipOut = k .slipOut;
+}
+
+-- any other call changes the task and the groups in its own way, and forgets the finding
+abbrev pub changed : (Known → Known) → State → State
+changed f k = record {
+  number = k .number;
+  task = f (knownOf k) .task;
+  groups = f (knownOf k) .groups;
   finding = None;
   slipOut = k .slipOut;
 }

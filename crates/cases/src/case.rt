@@ -1,15 +1,14 @@
-//! A case, and the calls that change its problem.
+//! A case: how it is opened, what every call checks, and the plan check.
 
 ghost use mathlib.Core.Path.{_≡_};
 ghost use Rattle.std.specs.Vec.{made};
 ghost use Rattle.std.specs.declared.result.Result.the-variants.{Ok};
 ghost use Rattle.rules.specs.Refusals.{after};
-ghost use Rattle.cases.specs.State.{view, fresh, usable, names, opening, opened, putting, put as filled};
+ghost use Rattle.cases.specs.State.{view, fresh, usable, names, naming, opening, opened};
 ghost use Rattle.cases.specs.Checks.{PlanChecked};
 use rules::Facts;
 use rules::PlanCheck;
 use rules::Refusal;
-use rules::Step;
 use rules::facts_below;
 use rules::is_subset;
 use std::alloc::AllocError;
@@ -61,7 +60,7 @@ impl Case {
     }
 
     /// Refuses a set that names a fact at or above the number of facts.
-    fn check_names(&self, set: Facts) -> Result<(), Refusal>
+    pub(crate) fn check_names(&self, set: Facts) -> Result<(), Refusal>
         ensures { λ r. ⌜ r ≡ names (view (now (self .entry))) set (Ok tt) ⌝ }
     {
         if is_subset(set, facts_below(self.facts())) {
@@ -69,6 +68,14 @@ impl Case {
         } else {
             Err(Refusal::UnknownFact)
         }
+    }
+
+    /// Refuses an unopened case, one of which a slip is out, and a set that names a fact at or above the number of facts.
+    pub(crate) fn check_set(&self, set: Facts) -> Result<(), Refusal>
+        ensures { λ r. ⌜ r ≡ naming (view (now (self .entry))) set ⌝ }
+    {
+        self.check_usable()?;
+        self.check_names(set)
     }
 
     /// Opens the case: sets its number, the number of facts, the standing and the order.
@@ -81,18 +88,6 @@ impl Case {
         }
         self.known.open(n, standing, order)?;
         self.number = number;
-        self.finding = None;
-        Ok(())
-    }
-
-    /// Puts a step into an empty place.
-    pub fn put(&mut self, place: u8, step: Step) -> Result<(), Refusal>
-        ensures answer { λ r. ⌜ r ≡ putting (view (now (self .entry))) place step ⌝ }
-        ensures after { λ r. ⌜ view (now (self .exit)) ≡ after r (filled place step) (view (now (self .entry))) ⌝ }
-    {
-        self.check_usable()?;
-        self.check_names(step.needs | step.gives | step.takes)?;
-        self.known.put(place, step)?;
         self.finding = None;
         Ok(())
     }

@@ -1,5 +1,6 @@
 //! The case: its calls, the plan check and find.
 
+mod calls;
 mod case;
 mod find;
 

@@ -4,6 +4,7 @@ mod examples;
 mod fault;
 mod grow;
 mod known;
+mod lose;
 
 pub use examples::all_worked_examples_hold;
 pub use fault::FinderFault;
