@@ -58,12 +58,12 @@ module _ (c : Choice) (R : ℕ → Type 0) (m : ℕ) (k k′ : State) (s s′ : 
   fits-served : (f : Frame) (r : Result Reply LineFault) → Serves c R m f k r k′ s b s′ b′ → Fits r b′
   fits-served (Open number n standing order) r h = fits-made _ _ r h
   fits-served (Put place needs gives takes) r h = fits-made _ _ r h
-  fits-served (Grant x) r h = fits-unserved 3 r h
-  fits-served (Lapse x) r h = fits-unserved 4 r h
-  fits-served (Order x) r h = fits-unserved 5 r h
-  fits-served (Cancel x) r h = fits-unserved 6 r h
-  fits-served (Withdraw i) r h = fits-unserved 7 r h
-  fits-served (Carry i) r h = fits-unserved 8 r h
+  fits-served (Grant x) r h = fits-made _ _ r h
+  fits-served (Lapse x) r h = fits-made _ _ r h
+  fits-served (Order x) r h = fits-made _ _ r h
+  fits-served (Cancel x) r h = fits-made _ _ r h
+  fits-served (Withdraw i) r h = fits-made _ _ r h
+  fits-served (Carry i) r h = fits-made _ _ r h
   fits-served Find r (a, q, finds) =
       subst (λ (x : Result Reply LineFault). Fits x b′) (sym q) (fits-looked a (finding k (length s) (length b)) refl finds)
   fits-served DrawAndSign r h = fits-unserved 10 r h

@@ -17,7 +17,7 @@ use Rattle.frames.specs.declared.frame.Frame.{Frame}
 use Rattle.frames.specs.declared.frame.Frame.the-variants.{Open, Put, Grant, Lapse, Order, Cancel, Withdraw, Carry, Find, DrawAndSign}
 use Rattle.frames.specs.declared.frame.FrameFault.{FrameFault}
 use Rattle.frames.specs.declared.frame.FrameFault.the-variants.{UnknownKind}
-use Rattle.cases.specs.State.{State, opening, opened, putting, put}
+use Rattle.cases.specs.State.{State, opening, opened, putting, put, naming, grant, lapse, ordering, order, cancel, withdrawing, withdraw, carrying, carry}
 use Rattle.cases.specs.Finding.{finding, Finds}
 use Rattle.casefile.specs.declared.fault.LineFault.{LineFault}
 use Rattle.casefile.specs.declared.fault.LineFault.the-variants as fault
@@ -51,12 +51,12 @@ abbrev pub Serves : Choice → (ℕ → Type 0) → ℕ → Frame → State → 
 Serves c R m (Open number n standing order) k r k′ s b s′ b′ = Makes (opening k n standing order) (opened number n standing order) k r k′ s b s′ b′
 Serves c R m (Put place needs gives takes) k r k′ s b s′ b′ =
     Makes (putting k place (stepOf needs gives takes)) (put place (stepOf needs gives takes)) k r k′ s b s′ b′
-Serves c R m (Grant x) k r k′ s b s′ b′ = Unserved 3 k r k′ s b s′ b′
-Serves c R m (Lapse x) k r k′ s b s′ b′ = Unserved 4 k r k′ s b s′ b′
-Serves c R m (Order x) k r k′ s b s′ b′ = Unserved 5 k r k′ s b s′ b′
-Serves c R m (Cancel x) k r k′ s b s′ b′ = Unserved 6 k r k′ s b s′ b′
-Serves c R m (Withdraw i) k r k′ s b s′ b′ = Unserved 7 k r k′ s b s′ b′
-Serves c R m (Carry i) k r k′ s b s′ b′ = Unserved 8 k r k′ s b s′ b′
+Serves c R m (Grant x) k r k′ s b s′ b′ = Makes (naming k x) (grant x) k r k′ s b s′ b′
+Serves c R m (Lapse x) k r k′ s b s′ b′ = Makes (naming k x) (lapse x) k r k′ s b s′ b′
+Serves c R m (Order x) k r k′ s b s′ b′ = Makes (ordering k x) (order x) k r k′ s b s′ b′
+Serves c R m (Cancel x) k r k′ s b s′ b′ = Makes (naming k x) (cancel x) k r k′ s b s′ b′
+Serves c R m (Withdraw i) k r k′ s b s′ b′ = Makes (withdrawing k i) (withdraw i) k r k′ s b s′ b′
+Serves c R m (Carry i) k r k′ s b s′ b′ = Makes (carrying k i) (carry i) k r k′ s b s′ b′
 Serves c R m Find k r k′ s b s′ b′ =
     (a : Result (ℕ × ℕ × ℕ) FinderFault) × (r ≡ looked a) × Finds c R m k a k′ s b s′ b′ (finding k (length s) (length b))
 Serves c R m DrawAndSign k r k′ s b s′ b′ = Unserved 10 k r k′ s b s′ b′

@@ -4,7 +4,7 @@ ghost use mathlib.Core.Path.{_≡_};
 ghost use Prim.Native.Nat.{ℕ};
 ghost use lib.ListN.{length};
 ghost use Rattle.cases.specs.State.{view};
-ghost use Rattle.casefile.specs.Serving.{Serves};
+ghost use Rattle.casefile.specs.Serving.{called, Serves};
 use crate::fault::LineFault;
 use crate::fault::LineFromFinder;
 use crate::fault::LineFromFrame;
@@ -16,6 +16,7 @@ use frames::Frame;
 use frames::FrameFault;
 use pickers::Picker;
 use rules::Facts;
+use rules::Refusal;
 use rules::Step;
 
 /// What an accepted frame answers.
@@ -27,7 +28,15 @@ pub enum Reply {
     Found { set: Facts, size: u8, length: u16 },
 }
 
-/// Makes the call that a frame asks for. Frames of other kinds than open, put and find are not served yet.
+/// What is replied to a call that the case made or refused.
+fn reply_to(made: Result<(), Refusal>) -> Result<Reply, LineFault>
+    ensures { λ r. ⌜ r ≡ called made ⌝ }
+{
+    made?;
+    Ok(Reply::Done)
+}
+
+/// Makes the call that a frame asks for. A frame that draws and signs is not served yet.
 pub fn serve<D: Decider, P: Picker>(
     frame: &Frame,
     case: &mut Case,
@@ -44,30 +53,30 @@ pub fn serve<D: Decider, P: Picker>(
             n,
             standing,
             order,
-        } => {
-            case.open(number, n, standing, order)?;
-            Ok(Reply::Done)
-        }
+        } => reply_to(case.open(number, n, standing, order)),
         Frame::Put {
             place,
             needs,
             gives,
             takes,
         } => {
-            case.put(
-                place,
-                Step {
-                    needs,
-                    gives,
-                    takes,
-                },
-            )?;
-            Ok(Reply::Done)
+            let step = Step {
+                needs,
+                gives,
+                takes,
+            };
+            reply_to(case.put(place, step))
         }
+        Frame::Grant(set) => reply_to(case.grant(set)),
+        Frame::Lapse(set) => reply_to(case.lapse(set)),
+        Frame::Order(set) => reply_to(case.order(set)),
+        Frame::Cancel(set) => reply_to(case.cancel(set)),
+        Frame::Withdraw(place) => reply_to(case.withdraw(place)),
+        Frame::Carry(place) => reply_to(case.carry(place)),
         Frame::Find => {
             let (set, size, length) = case.find(decider, picker, sheet, book)?;
             Ok(Reply::Found { set, size, length })
         }
-        _ => Err(LineFault::Frame(FrameFault::UnknownKind(frame.kind()))),
+        Frame::DrawAndSign => Err(LineFault::Frame(FrameFault::UnknownKind(frame.kind()))),
     }
 }

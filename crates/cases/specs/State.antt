@@ -3,18 +3,17 @@ use mathlib.Core.Bool.{Bool, true, false, cond}
 use mathlib.Core.List.{List, []}
 use Prim.Native.Nat.{ℕ}
 use lib.Dec.{eqb}
-use lib.ListN.{set}
 use Rattle.std.specs.declared.option.Option.{Option}
-use Rattle.std.specs.declared.option.Option.the-variants.{Some, None}
+use Rattle.std.specs.declared.option.Option.the-variants.{None}
 use Rattle.std.specs.declared.result.Result.{Result}
 use Rattle.std.specs.declared.result.Result.the-variants.{Ok, Err}
 use Rattle.rules.specs.declared.step.Step.{Step}
 use Rattle.rules.specs.declared.refusal.Refusal.{Refusal}
 use Rattle.rules.specs.declared.refusal.Refusal.the-variants.{Unopened, AlreadyOpen, SlipOut, UnknownFact}
 use Rattle.rules.specs.Sets.{_∪_, inside, below}
-use Rattle.rules.specs.Planning.{Task, holding}
+use Rattle.rules.specs.Planning.{Task}
 use Rattle.rules.specs.Places.{putRefusal, clearRefusal}
-use Rattle.waivers.specs.Known.{Known, known, nothing, openRefusal, orderRefusal, carryRefusal}
+use Rattle.waivers.specs.Known.{Known, known, nothing, openRefusal, orderRefusal, carryRefusal, placed, granted, lapsed, ordered, cancelled, withdrawn, carried}
 use Rattle.cases.specs.declared.case.Case.{Case}
 
 -- the number of the case, its task, the groups that it lists, its finding, and whether a slip is out
@@ -89,17 +88,7 @@ opened c n s o k = record {
   slipOut = k .slipOut;
 }
 
--- put fills a place, empties the list and forgets the finding
-abbrev pub put : ℕ → Step → State → State
-put i t k = record {
-  number = k .number;
-  task = holding (k .task) (set (k .task .steps) i (Some t));
-  groups = [];
-  finding = None;
-  slipOut = k .slipOut;
-}
-
--- any other call changes the task and the groups in its own way, and forgets the finding
+-- every other call changes the task and the groups in its own way, and forgets the finding
 abbrev pub changed : (Known → Known) → State → State
 changed f k = record {
   number = k .number;
@@ -108,3 +97,31 @@ changed f k = record {
   finding = None;
   slipOut = k .slipOut;
 }
+
+-- put fills a place, empties the list and forgets the finding
+abbrev pub put : ℕ → Step → State → State
+put i t = changed (placed i t)
+
+-- grant adds a set to the standing, empties the list and forgets the finding
+abbrev pub grant : ℕ → State → State
+grant s = changed (granted s)
+
+-- lapse removes a set from the standing, keeps the list and forgets the finding
+abbrev pub lapse : ℕ → State → State
+lapse s = changed (lapsed s)
+
+-- order adds a set to the order, takes its facts out of each group and forgets the finding
+abbrev pub order : ℕ → State → State
+order s = changed (ordered s)
+
+-- cancel removes a set from the order, empties the list and forgets the finding
+abbrev pub cancel : ℕ → State → State
+cancel s = changed (cancelled s)
+
+-- withdraw empties a place, keeps the list and forgets the finding
+abbrev pub withdraw : ℕ → State → State
+withdraw i = changed (withdrawn i)
+
+-- carry does a step for good, keeps the list and forgets the finding
+abbrev pub carry : ℕ → State → State
+carry i = changed (carried i)

@@ -2,8 +2,8 @@
 
 ghost use mathlib.Core.Path.{_≡_};
 ghost use Rattle.rules.specs.Refusals.{after};
-ghost use Rattle.waivers.specs.Known.{granted, lapsed, ordered, cancelled, withdrawn, carried};
-ghost use Rattle.cases.specs.State.{view, putting, put as filled, naming, ordering, withdrawing, carrying, changed};
+ghost use Rattle.cases.specs.State.{view, naming, putting, ordering, withdrawing, carrying};
+ghost use Rattle.cases.specs.State.{put as filled, grant as granted, lapse as lapsed, order as ordered, cancel as cancelled, withdraw as withdrawn, carry as carried};
 use crate::case::Case;
 use rules::Facts;
 use rules::Refusal;
@@ -25,7 +25,7 @@ impl Case {
     /// Adds facts to the standing.
     pub fn grant(&mut self, set: Facts) -> Result<(), Refusal>
         ensures answer { λ r. ⌜ r ≡ naming (view (now (self .entry))) set ⌝ }
-        ensures after { λ r. ⌜ view (now (self .exit)) ≡ after r (changed (granted set)) (view (now (self .entry))) ⌝ }
+        ensures after { λ r. ⌜ view (now (self .exit)) ≡ after r (granted set) (view (now (self .entry))) ⌝ }
     {
         self.check_set(set)?;
         self.known.grant(set);
@@ -36,7 +36,7 @@ impl Case {
     /// Removes facts from the standing.
     pub fn lapse(&mut self, set: Facts) -> Result<(), Refusal>
         ensures answer { λ r. ⌜ r ≡ naming (view (now (self .entry))) set ⌝ }
-        ensures after { λ r. ⌜ view (now (self .exit)) ≡ after r (changed (lapsed set)) (view (now (self .entry))) ⌝ }
+        ensures after { λ r. ⌜ view (now (self .exit)) ≡ after r (lapsed set) (view (now (self .entry))) ⌝ }
     {
         self.check_set(set)?;
         self.known.lapse(set);
@@ -47,7 +47,7 @@ impl Case {
     /// Adds facts to the order.
     pub fn order(&mut self, set: Facts) -> Result<(), Refusal>
         ensures answer { λ r. ⌜ r ≡ ordering (view (now (self .entry))) set ⌝ }
-        ensures after { λ r. ⌜ view (now (self .exit)) ≡ after r (changed (ordered set)) (view (now (self .entry))) ⌝ }
+        ensures after { λ r. ⌜ view (now (self .exit)) ≡ after r (ordered set) (view (now (self .entry))) ⌝ }
     {
         self.check_set(set)?;
         self.known.order(set)?;
@@ -58,7 +58,7 @@ impl Case {
     /// Removes facts from the order.
     pub fn cancel(&mut self, set: Facts) -> Result<(), Refusal>
         ensures answer { λ r. ⌜ r ≡ naming (view (now (self .entry))) set ⌝ }
-        ensures after { λ r. ⌜ view (now (self .exit)) ≡ after r (changed (cancelled set)) (view (now (self .entry))) ⌝ }
+        ensures after { λ r. ⌜ view (now (self .exit)) ≡ after r (cancelled set) (view (now (self .entry))) ⌝ }
     {
         self.check_set(set)?;
         self.known.cancel(set);
@@ -69,7 +69,7 @@ impl Case {
     /// Empties a place that holds a step.
     pub fn withdraw(&mut self, place: u8) -> Result<(), Refusal>
         ensures answer { λ r. ⌜ r ≡ withdrawing (view (now (self .entry))) place ⌝ }
-        ensures after { λ r. ⌜ view (now (self .exit)) ≡ after r (changed (withdrawn place)) (view (now (self .entry))) ⌝ }
+        ensures after { λ r. ⌜ view (now (self .exit)) ≡ after r (withdrawn place) (view (now (self .entry))) ⌝ }
     {
         self.check_usable()?;
         self.known.withdraw(place)?;
@@ -80,7 +80,7 @@ impl Case {
     /// Does a step for good, if its needs outside the waived facts stand.
     pub fn carry(&mut self, place: u8) -> Result<(), Refusal>
         ensures answer { λ r. ⌜ r ≡ carrying (view (now (self .entry))) place ⌝ }
-        ensures after { λ r. ⌜ view (now (self .exit)) ≡ after r (changed (carried place)) (view (now (self .entry))) ⌝ }
+        ensures after { λ r. ⌜ view (now (self .exit)) ≡ after r (carried place) (view (now (self .entry))) ⌝ }
     {
         self.check_usable()?;
         self.known.carry(place)?;

@@ -2,7 +2,7 @@
 use mathlib.Core.Path.{_≡_, refl, sym, ap, subst, _∙_}
 use mathlib.Core.Bool.{Bool, true, false, cond}
 use mathlib.Core.Logic.{_⊎_, inl, inr}
-use mathlib.Core.List.{List, [], _∷_, _++_}
+use mathlib.Core.List.{List, [], _∷_, _++_, map}
 use Prim.Native.Nat.{ℕ, zero, suc, _+_, _≤_, _<_}
 use native.Mathlib.Omega.{arith}
 use lib.Dec.{T}
@@ -12,7 +12,7 @@ use Rattle.std.proofs.shelf.Lists.{take-more, take-more-set, at-drop-more, drop
 use Rattle.rules.specs.Sets.{_∖_}
 use Rattle.rules.specs.Listing.{listed, adding}
 use Rattle.rules.proofs.Listing.{At, Apart, T→true, →listed, listed→, apart-adding, from-adding}
-use Rattle.waivers.specs.Known.{losing}
+use Rattle.waivers.specs.Known.{addingEach, losing}
 
 -- ---- a search through the list
 
@@ -28,11 +28,15 @@ listed-by E s l false is not each =
 
 -- ---- what is left
 
-losing-push : (s : ℕ) (gs hs : List ℕ) (h : ℕ) → losing s gs (hs ++ h ∷ []) ≡ adding (h ∖ s) (losing s gs hs)
+-- the list gs, and after it the groups hs without the facts of s
+abbrev losing-on : ℕ → List ℕ → List ℕ → List ℕ
+losing-on s gs hs = addingEach (map (λ h. h ∖ s) hs) gs
+
+losing-push : (s : ℕ) (gs hs : List ℕ) (h : ℕ) → losing-on s gs (hs ++ h ∷ []) ≡ adding (h ∖ s) (losing-on s gs hs)
 losing-push s gs [] h = refl
 losing-push s gs (g ∷ hs) h = losing-push s (adding (g ∖ s) gs) hs h
 
-pub losing-apart : (s : ℕ) (gs hs : List ℕ) → Apart gs → Apart (losing s gs hs)
+pub losing-apart : (s : ℕ) (gs hs : List ℕ) → Apart gs → Apart (losing-on s gs hs)
 losing-apart s gs [] apart = apart
 losing-apart s gs (h ∷ hs) apart = losing-apart s (adding (h ∖ s) gs) hs (apart-adding (h ∖ s) gs apart)
 
@@ -42,12 +46,12 @@ adding-few s l = elim (listed s l) as (λ b. length (cond b l (l ++ s ∷ [])) �
   | false ↦ omega (arith, length-append l (s ∷ []))
 ]
 
-pub losing-few : (s : ℕ) (gs hs : List ℕ) → length (losing s gs hs) ≤ length gs + length hs
+pub losing-few : (s : ℕ) (gs hs : List ℕ) → length (losing-on s gs hs) ≤ length gs + length hs
 losing-few s gs [] = omega arith
 losing-few s gs (h ∷ hs) = omega (arith, losing-few s (adding (h ∖ s) gs) hs, adding-few (h ∖ s) gs)
 
 pub losing-from : (P : ℕ → Type 0) (s : ℕ) (gs hs : List ℕ) → ((a : ℕ) → At a gs → P a) → ((i : ℕ) → i < length hs → P (getD hs i 0 ∖ s))
-    → (a : ℕ) → At a (losing s gs hs) → P a
+    → (a : ℕ) → At a (losing-on s gs hs) → P a
 losing-from P s gs [] old new a at = old a at
 losing-from P s gs (h ∷ hs) old new a at =
     losing-from P s (adding (h ∖ s) gs) hs
@@ -58,7 +62,7 @@ losing-from P s gs (h ∷ hs) old new a at =
 
 -- of the groups xs the first i have lost s, and those that are left stand in the first places of ys
 pub record Loses (s : ℕ) (xs ys : List ℕ) (i kept : ℕ) : Type 0 where
-  pub left : take kept ys ≡ losing s [] (take i xs)
+  pub left : take kept ys ≡ losing s (take i xs)
   pub rest : drop i ys ≡ drop i xs
   pub few : kept ≤ i
   pub long : length ys ≡ length xs
@@ -72,12 +76,12 @@ heads cs ds i lt e h =
     (cc, cc)
 
 module _ (s : ℕ) (xs ys : List ℕ) (i kept g : ℕ) (lt : i < length xs) (inv : Loses s xs ys i kept) (is : g ≡ getD ys i 0 ∖ s) where
-  next : (b : Bool) → listed g (take kept ys) ≡ b → losing s [] (take (i + 1) xs) ≡ cond b (take kept ys) (take kept ys ++ g ∷ [])
+  next : (b : Bool) → listed g (take kept ys) ≡ b → losing s (take (i + 1) xs) ≡ cond b (take kept ys) (take kept ys ++ g ∷ [])
   next b h =
       let v : getD ys i 0 ≡ getD xs i 0 = heads xs ys i lt (inv .long) (inv .rest) .0 in
       let w : getD xs i 0 ∖ s ≡ g = ap (λ x. x ∖ s) (sym v) ∙ sym is in
-      ap (losing s []) (take-more xs i 0 lt) ∙ losing-push s [] (take i xs) (getD xs i 0)
-      ∙ ap (λ x. adding x (losing s [] (take i xs))) w ∙ ap (adding g) (sym (inv .left))
+      ap (losing s) (take-more xs i 0 lt) ∙ losing-push s [] (take i xs) (getD xs i 0)
+      ∙ ap (λ x. adding x (losing s (take i xs))) w ∙ ap (adding g) (sym (inv .left))
       ∙ ap (λ c. cond c (take kept ys) (take kept ys ++ g ∷ [])) h
 
   pub loses-listed : listed g (take kept ys) ≡ true → Loses s xs ys (i + 1) kept

@@ -1,7 +1,6 @@
 //! Taking facts out of every group of a list.
 
 ghost use mathlib.Core.Path.{_≡_};
-ghost use mathlib.Core.List.{[]};
 ghost use Prim.Native.Nat.{ℕ, _≤_};
 ghost use lib.ListN.{length, take};
 ghost use Rattle.std.specs.Of.Vec.{vec-items, vec-cap};
@@ -20,7 +19,7 @@ fn is_listed(set: Facts, list: &[Facts]) -> bool
 /// Takes the facts of `set` out of each group, and moves the first of equals to the front. Says how many there are.
 fn lose_in_place(groups: &mut [Facts], set: Facts) -> usize
     ensures within { λ r. ⌜ r ≤ length (now (groups .entry)) ⌝ }
-    ensures items { λ r. ⌜ take r (now (groups .exit)) ≡ losing set [] (now (groups .entry)) ⌝ }
+    ensures items { λ r. ⌜ take r (now (groups .exit)) ≡ losing set (now (groups .entry)) ⌝ }
 {
     let mut count = 0;
     for i in 0..groups.len() {
@@ -35,7 +34,7 @@ fn lose_in_place(groups: &mut [Facts], set: Facts) -> usize
 
 /// Takes the facts of `set` out of each group; a group that equals an earlier one then is left out.
 pub(crate) fn lose(groups: &mut Vec<Facts>, set: Facts)
-    ensures items { λ _. ⌜ vec-items (now (groups .exit)) ≡ losing set [] (vec-items (now (groups .entry))) ⌝ }
+    ensures items { λ _. ⌜ vec-items (now (groups .exit)) ≡ losing set (vec-items (now (groups .entry))) ⌝ }
     ensures room { λ _. ⌜ vec-cap (now (groups .exit)) ≡ vec-cap (now (groups .entry)) ⌝ }
 {
     let count = lose_in_place(groups.as_mut_slice(), set);

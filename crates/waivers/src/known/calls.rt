@@ -1,7 +1,6 @@
 //! What the calls of an open case make of the problem and of its groups.
 
 ghost use mathlib.Core.Path.{_≡_};
-ghost use mathlib.Core.List.{[]};
 ghost use Rattle.rules.specs.Refusals.{after};
 ghost use Rattle.rules.specs.Places.{clearRefusal};
 ghost use Rattle.waivers.specs.Known.{known, granted, lapsed, cancelled, orderRefusal, ordered, withdrawn, carryRefusal, carried};

@@ -31,5 +31,5 @@ loop-i-again c =
 pub returns : need.returns
 returns c = record {
   within = omega (arith, c .loop-i .inv .few);
-  items = c .loop-i .inv .left ∙ ap (losing (c .args .set) []) (take-all (c .loop-i .i) (c .args .groups .now) (omega arith));
+  items = c .loop-i .inv .left ∙ ap (losing (c .args .set)) (take-all (c .loop-i .i) (c .args .groups .now) (omega arith));
 }
