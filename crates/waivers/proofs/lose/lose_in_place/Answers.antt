@@ -21,11 +21,11 @@ loop-i-again c =
     let is : c .is-listed .result ≡ listed g (take (l .count) (l .groups)) = simp e at (c .is-listed .ensures) in
     elim (c .if-not-is-listed .came) [
       | then-not-is-listed w ↦
-        simp (w .groups-is, w .count-is) (loses-new (c .args .set) xs (l .groups) (l .i) (l .count) g (omega arith) (l .inv)
-            (c .difference-group .ensures) (sym is ∙ w .if-not-is-listed .taken))
+          simp (w .groups-is, w .count-is) (loses-new (c .args .set) xs (l .groups) (l .i) (l .count) g (omega arith) (l .inv)
+          (c .difference-group .ensures) (sym is ∙ w .if-not-is-listed .taken))
       | else-not-is-listed w ↦
-        simp (w .groups-is, w .count-is) (loses-listed (c .args .set) xs (l .groups) (l .i) (l .count) g (omega arith) (l .inv)
-            (c .difference-group .ensures) (sym is ∙ w .if-not-is-listed .left))
+          simp (w .groups-is, w .count-is) (loses-listed (c .args .set) xs (l .groups) (l .i) (l .count) g (omega arith) (l .inv)
+          (c .difference-group .ensures) (sym is ∙ w .if-not-is-listed .left))
     ]
 
 pub returns : need.returns

@@ -10,7 +10,23 @@ ghost-self c =
     let k = c .args .self .now in
     let is = sym (c .get-held .ensures) ∙ c .in-Some .is in
     let can : c .in-Some .step .needs ∖ k .problem .waived ⊆ k .problem .standing .facts =
-        subst (λ (x : ℕ). x ⊆ k .problem .standing .facts) (c .difference .ensures) (c .if-not-is-subset .ensures tt .holds tt) in
-    (tt, tt, (k .sized, (k .few, (k .room, (k .apart, (
-      (λ i h. simp (c .result-self .ensures) (group-carry (task (k .problem)) (c .args .place) (c .in-Some .step) _ is can (k .each i h))),
-      tt))))))
+    subst (λ (x : ℕ). x ⊆ k .problem .standing .facts) (c .difference .ensures) (c .if-not-is-subset .ensures tt .holds tt) in (
+      tt,
+      tt,
+      (
+        k .sized,
+        (
+          k .few,
+          (
+            k .room,
+            (
+              k .apart,
+              (
+                (λ i h. simp (c .result-self .ensures) (group-carry (task (k .problem)) (c .args .place) (c .in-Some .step) _ is can (k .each i h))),
+                tt,
+              ),
+            ),
+          ),
+        ),
+      ),
+    )

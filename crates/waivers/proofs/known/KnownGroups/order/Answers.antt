@@ -29,7 +29,14 @@ ghost-self c =
     let A : List ℕ → Type 0 = λ x. Apart x in
     let apart : Apart hs = subst A (sym is) (losing-apart s [] gs (λ i j a b. absurd (omega arith))) in
     let each : (j : ℕ) → j < length hs → Group q (getD hs j 0) = λ j lt.
-        losing-from (Group q) s [] gs (λ a (i, out, e). absurd (omega arith)) (λ i h. group-order p s (getD gs i 0) (k .each i (omega arith)))
-        (getD hs j 0) (j, omega arith, ap (λ x. getD x j 0) (sym is)) in
-    (k .sized, (omega (arith, few, len, k .few), (omega (arith, c .lose .ensures .room, k .room),
-      ((λ i j lt le e. apart i j lt (omega arith) e), ((λ i h. each i (omega arith)), tt)))))
+    losing-from (Group q) s [] gs (λ a (i, out, e). absurd (omega arith)) (λ i h. group-order p s (getD gs i 0) (k .each i (omega arith)))
+    (getD hs j 0) (j, omega arith, ap (λ x. getD x j 0) (sym is)) in (
+      k .sized,
+      (
+        omega (arith, few, len, k .few),
+        (
+          omega (arith, c .lose .ensures .room, k .room),
+          ((λ i j lt le e. apart i j lt (omega arith) e), ((λ i h. each i (omega arith)), tt)),
+        ),
+      ),
+    )

@@ -5,10 +5,22 @@ use Rattle.waivers.proofs.known.KnownGroups.withdraw.Needs as need
 
 pub ghost-self : need.ghost-self
 ghost-self c =
-    let k = c .args .self .now in
-    (k .sized, (k .few, (k .room, (k .apart, (
-      (λ i h. group-withdraw (c .clear .result) (task (k .problem)) (c .args .place) _ (c .clear .last .self .places) (c .clear .ensures .after) (k .each i h)),
-      tt)))))
+    let k = c .args .self .now in (
+      k .sized,
+      (
+        k .few,
+        (
+          k .room,
+          (
+            k .apart,
+            (
+              (λ i h. group-withdraw (c .clear .result) (task (k .problem)) (c .args .place) _ (c .clear .last .self .places) (c .clear .ensures .after) (k .each i h)),
+              tt,
+            ),
+          ),
+        ),
+      ),
+    )
 
 pub returns : need.returns
 returns c = record {
