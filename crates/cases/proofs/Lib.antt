@@ -1,2 +1,3 @@
 pub mod Wiped
 pub mod Finished
+pub mod Made

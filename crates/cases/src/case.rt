@@ -40,7 +40,7 @@ impl Case {
     }
 
     /// The number of facts; 0 where the case is unopened.
-    fn facts(&self) -> u8
+    pub(crate) fn facts(&self) -> u8
         ensures { λ r. ⌜ r ≡ view (now (self .entry)) .task .n ⌝ }
     {
         self.known.problem().n

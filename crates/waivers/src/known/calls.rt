@@ -3,7 +3,7 @@
 ghost use mathlib.Core.Path.{_≡_};
 ghost use Rattle.rules.specs.Refusals.{after};
 ghost use Rattle.rules.specs.Places.{clearRefusal};
-ghost use Rattle.waivers.specs.Known.{known, granted, lapsed, cancelled, orderRefusal, ordered, withdrawn, carryRefusal, carried};
+ghost use Rattle.waivers.specs.Known.{known, granted, lapsed, cancelled, orderRefusal, ordered, withdrawn, carryRefusal, carried, waivedToo};
 use crate::known::KnownGroups;
 use crate::lose::lose;
 use rules::Facts;
@@ -48,6 +48,14 @@ impl KnownGroups {
     {
         self.groups.clear();
         self.problem.order = difference(self.problem.order, set);
+    }
+
+    /// Waives facts for good. They go from every reading of the problem, so the list is emptied.
+    pub fn waive(&mut self, set: Facts)
+        ensures { λ _. ⌜ known (now (self .exit)) ≡ waivedToo set (known (now (self .entry))) ⌝ }
+    {
+        self.groups.clear();
+        self.problem.waived |= set;
     }
 
     /// Empties a place. What was blocked stays blocked, so the groups stay.
