@@ -49,15 +49,17 @@ use Rattle.cases.specs.Law.{Found-truly, Left, Looks, Promised, Keeps, Runs, s
 -- ---- a find, with the buffers as vectors
 
 pub searched : (c : Choice) (R : Task → ℕ → ℕ → ℕ → Type 0) (m : ℕ) (k k′ : State) (r : Result (ℕ × ℕ × ℕ) FinderFault) (s : Vec Row Global) (b : Vec ℕ Global)
-  (s₀ s₁ : List Row) (b₀ b₁ : List ℕ) (x : Call) → x ≡ Find s b → s₀ ≡ vec-items s → b₀ ≡ vec-items b → length s₁ ≡ vec-len s → length b₁ ≡ vec-len b
-  → Finds c (λ y. R (k .task) y (length s₀) (length b₀)) m k r k′ s₀ b₀ s₁ b₁ (finding k (length s₀) (length b₀)) → Listed (knownOf k′)
-  → Makes c R m k x (Found r (refilled s s₁) (refilled b b₁)) k′
+    (s₀ s₁ : List Row) (b₀ b₁ : List ℕ) (x : Call) → x ≡ Find s b → s₀ ≡ vec-items s → b₀ ≡ vec-items b → length s₁ ≡ vec-len s → length b₁ ≡ vec-len b
+    → Finds c (λ y. R (k .task) y (length s₀) (length b₀)) m k r k′ s₀ b₀ s₁ b₁ (finding k (length s₀) (length b₀)) → Listed (knownOf k′)
+    → Makes c R m k x (Found r (refilled s s₁) (refilled b b₁)) k′
 searched c R m k k′ r s b s₀ s₁ b₀ b₁ x is es eb ls lb h listed =
-    subst (λ (y : Call). Makes c R m k y (Found r (refilled s s₁) (refilled b b₁)) k′) (sym is)
-      (subst (λ (z : List ℕ). F (vec-items s) (vec-items b) (vec-items (refilled s s₁)) z) (sym (refilled-is b b₁ lb))
-      (subst (λ (z : List Row). F (vec-items s) (vec-items b) z b₁) (sym (refilled-is s s₁ ls))
-      (subst (λ (z : List ℕ). F (vec-items s) z s₁ b₁) eb
-      (subst (λ (z : List Row). F z b₀ s₁ b₁) es h))), listed)
+    subst (λ (y : Call). Makes c R m k y (Found r (refilled s s₁) (refilled b b₁)) k′) (sym is) (
+      subst (λ (z : List ℕ). F (vec-items s) (vec-items b) (vec-items (refilled s s₁)) z) (sym (refilled-is b b₁ lb))
+          (subst (λ (z : List Row). F (vec-items s) (vec-items b) z b₁) (sym (refilled-is s s₁ ls))
+          (subst (λ (z : List ℕ). F (vec-items s) z s₁ b₁) eb
+          (subst (λ (z : List Row). F z b₀ s₁ b₁) es h))),
+      listed,
+    )
   where
     F : List Row → List ℕ → List Row → List ℕ → Type 0
     F u v u′ v′ = Finds c (λ y. R (k .task) y (length u) (length v)) m k r k′ u v u′ v′ (finding k (length u) (length v))
@@ -147,7 +149,7 @@ Ends (ListFull h) = Unit {0}
 
 -- find's checks never answer with an end of a search
 no-end-by : (a b c d : Bool) (e : FinderFault) → Ends e
-  → _≡_ {A = Result Unit FinderFault} (cond a (Err (Case Unopened)) (cond b (Err (Case SlipOut)) (cond c (Err SheetSize) (cond d (Err BookSize) (Ok tt))))) (Err e) → ⊥
+    → _≡_ {A = Result Unit FinderFault} (cond a (Err (Case Unopened)) (cond b (Err (Case SlipOut)) (cond c (Err SheetSize) (cond d (Err BookSize) (Ok tt))))) (Err e) → ⊥
 no-end-by true b c d e ends q = let w : e ≡ Case Unopened = cc in subst Ends w ends
 no-end-by false true c d e ends q = let w : e ≡ Case SlipOut = cc in subst Ends w ends
 no-end-by false false true d e ends q = let w : e ≡ SheetSize = cc in subst Ends w ends
@@ -167,7 +169,7 @@ refusing k n b (Decider e) q = absurd (no-end k n b (Decider e) tt q)
 refusing k n b (ListFull h) q = absurd (no-end k n b (ListFull h) tt q)
 
 refused-find : (k : State) (n b : ℕ) (r : Result (ℕ × ℕ × ℕ) FinderFault) (e : FinderFault) → finding k n b ≡ Err e → r ≡ Err e
-  → turnedDown r ≡ finding k n b
+    → turnedDown r ≡ finding k n b
 refused-find k n b r e q is = ap turnedDown is ∙ refusing k n b e q ∙ sym q
 
 nothing-more : (R : ℕ → Type 0) (m : ℕ) (k k′ : State) (b : List ℕ) (n p : ℕ) (e : FinderFault) → finding k n p ≡ Err e → Found-truly R m k k′ b (Err e)
@@ -179,19 +181,20 @@ nothing-more R m k k′ b n p (Decider e) q = absurd (no-end k n p (Decider e) t
 nothing-more R m k k′ b n p (ListFull h) q = absurd (no-end k n p (ListFull h) tt q)
 
 refused-truly : (R : Task → ℕ → ℕ → ℕ → Type 0) (m : ℕ) (k k′ : State) (s : Vec Row Global) (b : Vec ℕ Global) (s′ : Vec Row Global) (b′ : Vec ℕ Global)
-  (r : Result (ℕ × ℕ × ℕ) FinderFault) (e : FinderFault) → finding k (length (vec-items s)) (length (vec-items b)) ≡ Err e → r ≡ Err e
-  → vec-items s′ ≡ vec-items s → vec-items b′ ≡ vec-items b → Looks R m k (vec-items s) (vec-items b) (Found r s′ b′) k′
-refused-truly R m k k′ s b s′ b′ r e q is sheet book =
-    ( subst (λ (o : Result (ℕ × ℕ × ℕ) FinderFault). Found-truly (λ x. R (k .task) x (length (vec-items s)) (length (vec-items b))) m k k′ (vec-items b′) o) (sym is)
-        (nothing-more (λ x. R (k .task) x (length (vec-items s)) (length (vec-items b))) m k k′ (vec-items b′) (length (vec-items s)) (length (vec-items b)) e q)
-    , subst (λ (o : Result Unit FinderFault). Left o r (vec-items s) (vec-items b) (vec-items s′) (vec-items b′))
-        (sym (ap turnedDown is ∙ refusing k (length (vec-items s)) (length (vec-items b)) e q)) (sheet, book))
+    (r : Result (ℕ × ℕ × ℕ) FinderFault) (e : FinderFault) → finding k (length (vec-items s)) (length (vec-items b)) ≡ Err e → r ≡ Err e
+    → vec-items s′ ≡ vec-items s → vec-items b′ ≡ vec-items b → Looks R m k (vec-items s) (vec-items b) (Found r s′ b′) k′
+refused-truly R m k k′ s b s′ b′ r e q is sheet book = (
+  subst (λ (o : Result (ℕ × ℕ × ℕ) FinderFault). Found-truly (λ x. R (k .task) x (length (vec-items s)) (length (vec-items b))) m k k′ (vec-items b′) o) (sym is)
+      (nothing-more (λ x. R (k .task) x (length (vec-items s)) (length (vec-items b))) m k k′ (vec-items b′) (length (vec-items s)) (length (vec-items b)) e q),
+  subst (λ (o : Result Unit FinderFault). Left o r (vec-items s) (vec-items b) (vec-items s′) (vec-items b′))
+      (sym (ap turnedDown is ∙ refusing k (length (vec-items s)) (length (vec-items b)) e q)) (sheet, book),
+)
 
 -- every good set meets each listed group
 all-met : (k : State) (p : Task) → Listed (knownOf k) → k .task ≡ p → (x : ℕ) → Good p x → Hits (k .groups) x
 all-met k p listed e x good =
     each1-from-getD (λ g. Meets x g) (k .groups) 0
-      (λ i lt. duality p x (getD (k .groups) i 0) good (subst (λ (t : Task). Group t (getD (k .groups) i 0)) e (listed .each i lt)))
+    (λ i lt. duality p x (getD (k .groups) i 0) good (subst (λ (t : Task). Group t (getD (k .groups) i 0)) e (listed .each i lt)))
 
 module _ (c : Choice) (R : Task → ℕ → ℕ → ℕ → Type 0) (m : ℕ) (k k′ : State) (s : Vec Row Global) (b : Vec ℕ Global) (s′ : Vec Row Global) (b′ : Vec ℕ Global) where
   Reached : ℕ → Type 0
@@ -199,45 +202,52 @@ module _ (c : Choice) (R : Task → ℕ → ℕ → ℕ → Type 0) (m : ℕ) (k
 
   -- the plain case after a find that was not refused
   after-find : (r : Result (ℕ × ℕ × ℕ) FinderFault) → finding k (length (vec-items s)) (length (vec-items b)) ≡ Ok tt → k′ ≡ found k (k′ .groups) (setFound r)
-    → plain k′ ≡ next (plain k) (Find s b) (Found r s′ b′)
+      → plain k′ ≡ next (plain k) (Find s b) (Found r s′ b′)
   after-find r q is =
       ap plain is ∙ sym (ap (λ (o : Result Unit FinderFault). unless o (plain k) (rule (plain k) (Find s b) (Found r s′ b′))) q)
 
   found-truly : (r : Result (ℕ × ℕ × ℕ) FinderFault) → finding k (length (vec-items s)) (length (vec-items b)) ≡ Ok tt
-    → Answered c (λ y. R (k .task) y (length (vec-items s)) (length (vec-items b))) m k r k′ (length (vec-items s)) (vec-items b′)
-    → vec-items s′ ≡ replicate (length (vec-items s)) zeroRow → length (vec-items b′) ≡ length (vec-items b) → Listed (knownOf k′)
-    → Keeps R m k (Find s b) (Found r s′ b′) k′ × GoodFinding k′
-  found-truly (Ok (x, count, n)) q (is, counted, lt, (chosen, reached, good, plan, least), book) sheet len listed =
-      ( record { state = after-find (Ok (x, count, n)) q is; refusal = sym q; promise = ((good, counted, plan, least), (sheet, len, book)) }
-      , subst GoodFinding (sym is) (λ t e. let same : x ≡ t = cc in subst (Solvable (k .task)) same (good .1)) )
+      → Answered c (λ y. R (k .task) y (length (vec-items s)) (length (vec-items b))) m k r k′ (length (vec-items s)) (vec-items b′)
+      → vec-items s′ ≡ replicate (length (vec-items s)) zeroRow → length (vec-items b′) ≡ length (vec-items b) → Listed (knownOf k′)
+      → Keeps R m k (Find s b) (Found r s′ b′) k′ × GoodFinding k′
+  found-truly (Ok (x, count, n)) q (is, counted, lt, (chosen, reached, good, plan, least), book) sheet len listed = (
+    record { state = after-find (Ok (x, count, n)) q is; refusal = sym q; promise = ((good, counted, plan, least), (sheet, len, book)) },
+    subst GoodFinding (sym is) (λ t e. let same : x ≡ t = cc in subst (Solvable (k .task)) same (good .1)),
+  )
   found-truly (Err (Case e)) q (is, stop, book) sheet len listed = absurd stop
   found-truly (Err SheetSize) q (is, stop, book) sheet len listed = absurd stop
   found-truly (Err BookSize) q (is, stop, book) sheet len listed = absurd stop
-  found-truly (Err NoWaiver) q (is, (none, nothing), book) sheet len listed =
-      ( record { state = after-find (Err NoWaiver) q is; refusal = sym q; promise = (nothing, (sheet, len, book)) }
-      , no-finding k′ (ap (λ (n : State). n .finding) is))
-  found-truly (Err (Decider (BeyondReach x j))) q (is, (h, chosen, (out, mark, named)), book) sheet len listed =
-      ( record { state = after-find (Err (Decider (BeyondReach x j))) q is; refusal = sym q; promise = ((out, mark), (sheet, len, book)) }
-      , no-finding k′ (ap (λ (n : State). n .finding) is))
-  found-truly (Err (ListFull h)) q (is, (full, chosen, blocked), book) sheet len listed =
-      ( record {
-          state = after-find (Err (ListFull h)) q is;
-          refusal = sym q;
-          promise = ((full, listed, all-met k′ (k .task) listed (ap (λ (n : State). n .task) is)), (sheet, len, book)) }
-      , no-finding k′ (ap (λ (n : State). n .finding) is))
+  found-truly (Err NoWaiver) q (is, (none, nothing), book) sheet len listed = (
+    record { state = after-find (Err NoWaiver) q is; refusal = sym q; promise = (nothing, (sheet, len, book)) },
+    no-finding k′ (ap (λ (n : State). n .finding) is),
+  )
+  found-truly (Err (Decider (BeyondReach x j))) q (is, (h, chosen, (out, mark, named)), book) sheet len listed = (
+    record { state = after-find (Err (Decider (BeyondReach x j))) q is; refusal = sym q; promise = ((out, mark), (sheet, len, book)) },
+    no-finding k′ (ap (λ (n : State). n .finding) is),
+  )
+  found-truly (Err (ListFull h)) q (is, (full, chosen, blocked), book) sheet len listed = (
+    record {
+      state = after-find (Err (ListFull h)) q is;
+      refusal = sym q;
+      promise = ((full, listed, all-met k′ (k .task) listed (ap (λ (n : State). n .task) is)), (sheet, len, book));
+    },
+    no-finding k′ (ap (λ (n : State). n .finding) is),
+  )
 
 -- ---- each call keeps the law
 
 module _ (c : Choice) (R : Task → ℕ → ℕ → ℕ → Type 0) (m : ℕ) (k k′ : State) (good : GoodFinding k) where
   -- a call that answers whether it was made, and forgets the finding
   plainly : (x : Call) (a : Answer) (r : Result Unit Refusal) (f : State → State) → refused (plain k) x ≡ ofCase r → rule (plain k) x a ≡ plain (f k)
-    → ((n : State) → f n .finding ≡ None) → Promised R m k x (Done r) k′ → (a ≡ Done r) × (k′ ≡ after r f k) → Keeps R m k x a k′ × GoodFinding k′
-  plainly x a r f refuses rules forgets promise (said, is) =
-      ( record {
-          state = state-by k k′ x a r f refuses rules said is;
-          refusal = met-by k k′ x a r f refuses rules said is;
-          promise = subst (λ (b : Answer). Promised R m k x b k′) (sym said) promise }
-      , good-by k k′ x a r f refuses rules said is good forgets)
+      → ((n : State) → f n .finding ≡ None) → Promised R m k x (Done r) k′ → (a ≡ Done r) × (k′ ≡ after r f k) → Keeps R m k x a k′ × GoodFinding k′
+  plainly x a r f refuses rules forgets promise (said, is) = (
+    record {
+      state = state-by k k′ x a r f refuses rules said is;
+      refusal = met-by k k′ x a r f refuses rules said is;
+      promise = subst (λ (b : Answer). Promised R m k x b k′) (sym said) promise;
+    },
+    good-by k k′ x a r f refuses rules said is good forgets,
+  )
 
   -- a slip is torn: the finding stays
   tears : (number s : ℕ) (a : Answer) → Makes c R m k (Tear number s) a k′ → Keeps R m k (Tear number s) a k′ × GoodFinding k′
@@ -247,7 +257,8 @@ module _ (c : Choice) (R : Task → ℕ → ℕ → ℕ → Type 0) (m : ℕ) (k
       keeps = record {
         state = state-by k k′ (Tear number s) a (deciding k number s) torn refl refl said is;
         refusal = met-by k k′ (Tear number s) a (deciding k number s) torn refl refl said is;
-        promise = subst (λ (b : Answer). Promised R m k (Tear number s) b k′) (sym said) tt }
+        promise = subst (λ (b : Answer). Promised R m k (Tear number s) b k′) (sym said) tt;
+      }
 
       go : (o : Result Unit Refusal) → deciding k number s ≡ o → Keeps R m k (Tear number s) a k′ × GoodFinding k′
       go (Ok u) e = (keeps, subst GoodFinding (sym (is ∙ ap (λ (q : Result Unit Refusal). after q torn k) e)) good)
@@ -260,18 +271,22 @@ module _ (c : Choice) (R : Task → ℕ → ℕ → ℕ → Type 0) (m : ℕ) (k
       go : (o : Result Unit Refusal) → deciding k number s ≡ o → Keeps R m k (Sign number s) a k′ × GoodFinding k′
       go (Ok u) e =
           let way : k′ ≡ signed s k = is ∙ ap (λ (q : Result Unit Refusal). after q (signed s) k) e in
-          let plan : Solvable (k′ .task) 0 = subst (λ (n : State). Solvable (n .task) 0) (sym way) (waived-solvable k s (good s (decided-set k number s e))) in
-          ( record {
+          let plan : Solvable (k′ .task) 0 = subst (λ (n : State). Solvable (n .task) 0) (sym way) (waived-solvable k s (good s (decided-set k number s e))) in (
+            record {
               state = state-by k k′ (Sign number s) a (deciding k number s) (signed s) refl refl said is;
               refusal = met-by k k′ (Sign number s) a (deciding k number s) (signed s) refl refl said is;
-              promise = subst (λ (b : Answer). Promised R m k (Sign number s) b k′) (sym (said ∙ ap Done e)) plan }
-          , good-by k k′ (Sign number s) a (deciding k number s) (signed s) refl refl said is good (λ n. refl))
-      go (Err q) e =
-          ( record {
-              state = state-by k k′ (Sign number s) a (deciding k number s) (signed s) refl refl said is;
-              refusal = met-by k k′ (Sign number s) a (deciding k number s) (signed s) refl refl said is;
-              promise = subst (λ (b : Answer). Promised R m k (Sign number s) b k′) (sym (said ∙ ap Done e)) tt }
-          , good-by k k′ (Sign number s) a (deciding k number s) (signed s) refl refl said is good (λ n. refl))
+              promise = subst (λ (b : Answer). Promised R m k (Sign number s) b k′) (sym (said ∙ ap Done e)) plan;
+            },
+            good-by k k′ (Sign number s) a (deciding k number s) (signed s) refl refl said is good (λ n. refl),
+          )
+      go (Err q) e = (
+        record {
+          state = state-by k k′ (Sign number s) a (deciding k number s) (signed s) refl refl said is;
+          refusal = met-by k k′ (Sign number s) a (deciding k number s) (signed s) refl refl said is;
+          promise = subst (λ (b : Answer). Promised R m k (Sign number s) b k′) (sym (said ∙ ap Done e)) tt;
+        },
+        good-by k k′ (Sign number s) a (deciding k number s) (signed s) refl refl said is good (λ n. refl),
+      )
 
   -- a slip is drawn
   draws : (a : Answer) → Makes c R m k Draw a k′ → Keeps R m k Draw a k′ × GoodFinding k′
@@ -279,19 +294,23 @@ module _ (c : Choice) (R : Task → ℕ → ℕ → ℕ → Type 0) (m : ℕ) (k
     where
       go : (o : Result (ℕ × ℕ) Refusal) → drawing k ≡ o → Keeps R m k Draw a k′ × GoodFinding k′
       go (Ok d) e =
-          let way : k′ ≡ withSlip true k = is ∙ ap (λ (q : Result (ℕ × ℕ) Refusal). drawn q k) e in
-          ( record {
+          let way : k′ ≡ withSlip true k = is ∙ ap (λ (q : Result (ℕ × ℕ) Refusal). drawn q k) e in (
+            record {
               state = ap plain way ∙ sym (ap (λ (q : Result (ℕ × ℕ) Refusal). unless (ofCase (given q)) (plain k) (rule (plain k) Draw a)) e);
               refusal = ap met said;
-              promise = subst (λ (b : Answer). Promised R m k Draw b k′) (sym said) refl }
-          , subst GoodFinding (sym way) good)
+              promise = subst (λ (b : Answer). Promised R m k Draw b k′) (sym said) refl;
+            },
+            subst GoodFinding (sym way) good,
+          )
       go (Err q) e =
-          let way : k′ ≡ k = is ∙ ap (λ (q : Result (ℕ × ℕ) Refusal). drawn q k) e in
-          ( record {
+          let way : k′ ≡ k = is ∙ ap (λ (q : Result (ℕ × ℕ) Refusal). drawn q k) e in (
+            record {
               state = ap plain way ∙ sym (ap (λ (q : Result (ℕ × ℕ) Refusal). unless (ofCase (given q)) (plain k) (rule (plain k) Draw a)) e);
               refusal = ap met said;
-              promise = subst (λ (b : Answer). Promised R m k Draw b k′) (sym said) refl }
-          , subst GoodFinding (sym way) good)
+              promise = subst (λ (b : Answer). Promised R m k Draw b k′) (sym said) refl;
+            },
+            subst GoodFinding (sym way) good,
+          )
 
   -- find answers truly, and its set is good
   looks : (s : Vec Row Global) (b : Vec ℕ Global) (a : Answer) → Makes c R m k (Find s b) a k′ → Keeps R m k (Find s b) a k′ × GoodFinding k′
@@ -300,14 +319,16 @@ module _ (c : Choice) (R : Task → ℕ → ℕ → ℕ → Type 0) (m : ℕ) (k
   looks s b (Found r s′ b′) (finds, listed) = go (finding k (length (vec-items s)) (length (vec-items b))) refl finds
     where
       go : (o : Result Unit FinderFault) → finding k (length (vec-items s)) (length (vec-items b)) ≡ o
-        → Finds c (λ y. R (k .task) y (length (vec-items s)) (length (vec-items b))) m k r k′ (vec-items s) (vec-items b) (vec-items s′) (vec-items b′) o
-        → Keeps R m k (Find s b) (Found r s′ b′) k′ × GoodFinding k′
-      go (Err e) q (is, same, sheet, book) =
-          ( record {
-              state = ap plain same ∙ sym (ap (λ (o : Result Unit FinderFault). unless o (plain k) (rule (plain k) (Find s b) (Found r s′ b′))) q);
-              refusal = refused-find k (length (vec-items s)) (length (vec-items b)) r e q is;
-              promise = refused-truly R m k k′ s b s′ b′ r e q is sheet book }
-          , subst GoodFinding (sym same) good)
+          → Finds c (λ y. R (k .task) y (length (vec-items s)) (length (vec-items b))) m k r k′ (vec-items s) (vec-items b) (vec-items s′) (vec-items b′) o
+          → Keeps R m k (Find s b) (Found r s′ b′) k′ × GoodFinding k′
+      go (Err e) q (is, same, sheet, book) = (
+        record {
+          state = ap plain same ∙ sym (ap (λ (o : Result Unit FinderFault). unless o (plain k) (rule (plain k) (Find s b) (Found r s′ b′))) q);
+          refusal = refused-find k (length (vec-items s)) (length (vec-items b)) r e q is;
+          promise = refused-truly R m k k′ s b s′ b′ r e q is sheet book;
+        },
+        subst GoodFinding (sym same) good,
+      )
       go (Ok u) q (grown, answered, sheet, len) = found-truly c R m k k′ s b s′ b′ r q answered sheet len listed
 
   -- every call keeps the law, and the finding stays good
@@ -328,7 +349,7 @@ module _ (c : Choice) (R : Task → ℕ → ℕ → ℕ → Type 0) (m : ℕ) (k
 -- ---- the reach at a call is that at the beginning
 
 found-on : (R S : ℕ → Type 0) (m : ℕ) (k k′ : State) (b : List ℕ) (r : Result (ℕ × ℕ × ℕ) FinderFault) → ((s : ℕ) → S s → R s)
-  → Found-truly R m k k′ b r → Found-truly S m k k′ b r
+    → Found-truly R m k k′ b r → Found-truly S m k k′ b r
 found-on R S m k k′ b (Ok (s, count, n)) on h = h
 found-on R S m k k′ b (Err (Case e)) on h = h
 found-on R S m k k′ b (Err SheetSize) on h = h
@@ -348,10 +369,11 @@ promised-on R S m k k′ (Order s) a same h = h
 promised-on R S m k k′ (Cancel s) a same h = h
 promised-on R S m k k′ (Find s b) (Done r) same h = h
 promised-on R S m k k′ (Find s b) (Drawn r) same h = h
-promised-on R S m k k′ (Find s b) (Found r s′ b′) same (truly, left) =
-    ( found-on (λ x. S (k .task) x (length (vec-items s)) (length (vec-items b))) (λ x. R (k .task) x (length (vec-items s)) (length (vec-items b))) m k k′
-        (vec-items b′) r (λ x. same (k .task) x (length (vec-items s)) (length (vec-items b)) .0) truly
-    , left)
+promised-on R S m k k′ (Find s b) (Found r s′ b′) same (truly, left) = (
+  found-on (λ x. S (k .task) x (length (vec-items s)) (length (vec-items b))) (λ x. R (k .task) x (length (vec-items s)) (length (vec-items b))) m k k′
+      (vec-items b′) r (λ x. same (k .task) x (length (vec-items s)) (length (vec-items b)) .0) truly,
+  left,
+)
 promised-on R S m k k′ Draw a same h = h
 promised-on R S m k k′ (Sign number s) a same h = h
 promised-on R S m k k′ (Tear number s) a same h = h
@@ -362,12 +384,12 @@ keeps-on R S m k x a k′ same h = record { state = h .state; refusal = h .refus
 -- ---- runs
 
 runs-more : {R : Task → ℕ → ℕ → ℕ → Type 0} {m : ℕ} {k k₁ k₂ : State} {es : List (Call × Answer)} (x : Call) (a : Answer)
-  → Runs R m k es k₁ → Keeps R m k₁ x a k₂ → Runs R m k (es ++ (x, a) ∷ []) k₂
+    → Runs R m k es k₁ → Keeps R m k₁ x a k₂ → Runs R m k (es ++ (x, a) ∷ []) k₂
 runs-more x a start s = then x a _ s start
 runs-more x a (then y b h t rs) s = then y b h t (runs-more x a rs s)
 
 paired-more : (xs : List Call) (ws : List Answer) (x : Call) (a : Answer) → length ws ≡ length xs
-  → paired (xs ++ x ∷ []) (ws ++ a ∷ []) ≡ paired xs ws ++ (x, a) ∷ []
+    → paired (xs ++ x ∷ []) (ws ++ a ∷ []) ≡ paired xs ws ++ (x, a) ∷ []
 paired-more [] [] x a e = refl
 paired-more [] (w ∷ ws) x a e = absurd (omega arith)
 paired-more (y ∷ xs) [] x a e = absurd (omega arith)
@@ -386,14 +408,14 @@ pub good-first : (k : State) → k ≡ fresh → GoodFinding k
 good-first k is = no-finding k (ap (λ (n : State). n .finding) is)
 
 pub law-next : (c : Choice) (R S : Task → ℕ → ℕ → ℕ → Type 0) (m : ℕ) (k k′ : State) (xs : List Call) (ws ws′ : List Answer) (x : Call) (a : Answer)
-  → Same R S → Law R m xs ws k → GoodFinding k → Makes c S m k x a k′ → ws′ ≡ ws ++ a ∷ [] → Law R m (xs ++ x ∷ []) ws′ k′
+    → Same R S → Law R m xs ws k → GoodFinding k → Makes c S m k x a k′ → ws′ ≡ ws ++ a ∷ [] → Law R m (xs ++ x ∷ []) ws′ k′
 law-next c R S m k k′ xs ws ws′ x a same law good made is =
     let kept = keeps c S m k k′ good x a made .0 in
     let runs : Runs R m fresh (paired (xs ++ x ∷ []) (ws ++ a ∷ [])) k′ =
-          subst (λ (z : List (Call × Answer)). Runs R m fresh z k′) (sym (paired-more xs ws x a (law .answered)))
-            (runs-more x a (law .runs) (keeps-on R S m k x a k′ same kept)) in
+    subst (λ (z : List (Call × Answer)). Runs R m fresh z k′) (sym (paired-more xs ws x a (law .answered)))
+    (runs-more x a (law .runs) (keeps-on R S m k x a k′ same kept)) in
     subst (λ (zs : List Answer). Law R m (xs ++ x ∷ []) zs k′) (sym is)
-      (record { answered = omega (arith, length-append ws (a ∷ []), length-append xs (x ∷ []), law .answered); runs = runs; replayed = replays runs })
+    (record { answered = omega (arith, length-append ws (a ∷ []), length-append xs (x ∷ []), law .answered); runs = runs; replayed = replays runs })
 
 pub good-next : (c : Choice) (S : Task → ℕ → ℕ → ℕ → Type 0) (m : ℕ) (k k′ : State) (x : Call) (a : Answer) → GoodFinding k → Makes c S m k x a k′ → GoodFinding k′
 good-next c S m k k′ x a good made = keeps c S m k k′ good x a made .1

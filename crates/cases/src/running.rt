@@ -58,7 +58,12 @@ fn make<D: Decider, P: Picker>(case: &mut Case, decider: &mut D, picker: &P, cal
     ensures same { λ r. ⌜ Same (D·Decider .reach (now (decider .entry))) (D·Decider .reach (now (decider .exit))) ⌝ }
 {
     match call {
-        Call::Open { number, n, standing, order } => Answer::Done(case.open(number, n, standing, order)),
+        Call::Open {
+            number,
+            n,
+            standing,
+            order,
+        } => Answer::Done(case.open(number, n, standing, order)),
         Call::Grant(set) => Answer::Done(case.grant(set)),
         Call::Lapse(set) => Answer::Done(case.lapse(set)),
         Call::Put { place, step } => Answer::Done(case.put(place, step)),
@@ -66,9 +71,16 @@ fn make<D: Decider, P: Picker>(case: &mut Case, decider: &mut D, picker: &P, cal
         Call::Carry(place) => Answer::Done(case.carry(place)),
         Call::Order(set) => Answer::Done(case.order(set)),
         Call::Cancel(set) => Answer::Done(case.cancel(set)),
-        Call::Find { mut sheet, mut book } => {
+        Call::Find {
+            mut sheet,
+            mut book,
+        } => {
             let result = case.find(decider, picker, sheet.as_mut_slice(), book.as_mut_slice());
-            Answer::Found { result, sheet, book }
+            Answer::Found {
+                result,
+                sheet,
+                book,
+            }
         }
         Call::Draw => Answer::Drawn(draw(case)),
         Call::Sign { number, set } => Answer::Done(sign(case, number, set)),
@@ -79,7 +91,12 @@ fn make<D: Decider, P: Picker>(case: &mut Case, decider: &mut D, picker: &P, cal
 /// Makes the calls in turn on a fresh case, refused or not, and hands back the answers, with the buffers of every find, and the case.
 ///
 /// The room for the answers is reserved before the first call.
-pub fn run<D: Decider, P: Picker>(heap: Global, decider: &mut D, picker: &P, calls: Vec<Call>) -> Result<(Vec<Answer>, Case), AllocError>
+pub fn run<D: Decider, P: Picker>(
+    heap: Global,
+    decider: &mut D,
+    picker: &P,
+    calls: Vec<Call>,
+) -> Result<(Vec<Answer>, Case), AllocError>
     ensures { λ r. ⌜ made r (λ v. Law (D·Decider .reach (now (decider .entry))) (D·Decider .signed) (vec-items calls) (vec-items (v .0)) (view (v .1))) ⌝ }
 {
     let mut case = Case::new(heap)?;

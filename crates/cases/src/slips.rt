@@ -23,7 +23,10 @@ impl Case {
             return Err(Refusal::NoFinding);
         }
         self.slip_out = true;
-        Ok(Slip { number: self.number, set })
+        Ok(Slip {
+            number: self.number,
+            set,
+        })
     }
 
     /// Refuses a slip that is not the one that is out.
