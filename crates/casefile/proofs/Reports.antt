@@ -29,7 +29,7 @@ use Rattle.casefile.specs.declared.fault.LineFault.{LineFault}
 use Rattle.casefile.specs.declared.serving.Reply.{Reply}
 use Rattle.casefile.specs.declared.serving.Reply.the-variants.{Done, Found}
 use Rattle.casefile.specs.Faults.{added}
-use Rattle.casefile.specs.Serving.{called, looked, Makes, Unserved, Serves, Asks}
+use Rattle.casefile.specs.Serving.{called, looked, Makes, Serves, Asks}
 use Rattle.casefile.specs.Reporting.{replyBytes, Fits}
 
 -- ---- the plan of an answer lies in the book
@@ -44,9 +44,6 @@ fits-err r e b q = subst (λ (x : Result Reply LineFault). Fits x b) (sym q) tt
 module _ (c : Choice) (R : ℕ → Type 0) (m : ℕ) (k k′ : State) (s s′ : List Row) (b b′ : List ℕ) where
   fits-made : (a : Result Unit Refusal) (f : State → State) (r : Result Reply LineFault) → Makes a f k r k′ s b s′ b′ → Fits r b′
   fits-made a f r (q, same, kept, left) = subst (λ (x : Result Reply LineFault). Fits x b′) (sym q) (fits-called a b′)
-
-  fits-unserved : (kind : ℕ) (r : Result Reply LineFault) → Unserved kind k r k′ s b s′ b′ → Fits r b′
-  fits-unserved kind r (q, same, kept, left) = fits-err r _ b′ q
 
   fits-looked : (a : Result (ℕ × ℕ × ℕ) FinderFault) (o : Result Unit FinderFault) → finding k (length s) (length b) ≡ o → Finds c R m k a k′ s b s′ b′ o
       → Fits (looked a) b′
@@ -66,7 +63,7 @@ module _ (c : Choice) (R : ℕ → Type 0) (m : ℕ) (k k′ : State) (s s′ : 
   fits-served (Carry i) r h = fits-made _ _ r h
   fits-served Find r (a, q, finds) =
       subst (λ (x : Result Reply LineFault). Fits x b′) (sym q) (fits-looked a (finding k (length s) (length b)) refl finds)
-  fits-served DrawAndSign r h = fits-unserved 10 r h
+  fits-served DrawAndSign r h = fits-made _ _ r h
 
   pub fits-asked : (line : List ℕ) (kind : ℕ) (r : Result Reply LineFault) → Asks c R m line kind k r k′ s b s′ b′ → Fits r b′
   fits-asked line kind r (inl (f, reads, is, served)) = fits-served f r served

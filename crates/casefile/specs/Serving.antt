@@ -16,8 +16,8 @@ use Rattle.frames.specs.Frames.{kindOf, faultKind, Reads}
 use Rattle.frames.specs.declared.frame.Frame.{Frame}
 use Rattle.frames.specs.declared.frame.Frame.the-variants.{Open, Put, Grant, Lapse, Order, Cancel, Withdraw, Carry, Find, DrawAndSign}
 use Rattle.frames.specs.declared.frame.FrameFault.{FrameFault}
-use Rattle.frames.specs.declared.frame.FrameFault.the-variants.{UnknownKind}
 use Rattle.cases.specs.State.{State, opening, opened, putting, put, naming, grant, lapse, ordering, order, cancel, withdrawing, withdraw, carrying, carry}
+use Rattle.cases.specs.Slips.{drawing, given, drawnAndSigned}
 use Rattle.cases.specs.Finding.{finding, Finds}
 use Rattle.casefile.specs.declared.fault.LineFault.{LineFault}
 use Rattle.casefile.specs.declared.fault.LineFault.the-variants as fault
@@ -42,10 +42,6 @@ looked (Err e) = Err (fault.Finder e)
 abbrev pub Makes : Result Unit Refusal → (State → State) → State → Result Reply LineFault → State → List Row → List ℕ → List Row → List ℕ → Type 0
 Makes a f k r k′ s b s′ b′ = (r ≡ called a) × (k′ ≡ after a f k) × (s′ ≡ s) × (b′ ≡ b)
 
--- a frame of this kind is not served
-abbrev pub Unserved : ℕ → State → Result Reply LineFault → State → List Row → List ℕ → List Row → List ℕ → Type 0
-Unserved kind k r k′ s b s′ b′ = (r ≡ Err (fault.Frame (UnknownKind kind))) × (k′ ≡ k) × (s′ ≡ s) × (b′ ≡ b)
-
 -- what a frame does to the case k, the sheet s and the book b; c is the picker's choice, R the decider's reach, m its mark
 abbrev pub Serves : Choice → (ℕ → Type 0) → ℕ → Frame → State → Result Reply LineFault → State → List Row → List ℕ → List Row → List ℕ → Type 0
 Serves c R m (Open number n standing order) k r k′ s b s′ b′ = Makes (opening k n standing order) (opened number n standing order) k r k′ s b s′ b′
@@ -59,7 +55,7 @@ Serves c R m (Withdraw i) k r k′ s b s′ b′ = Makes (withdrawing k i) (with
 Serves c R m (Carry i) k r k′ s b s′ b′ = Makes (carrying k i) (carry i) k r k′ s b s′ b′
 Serves c R m Find k r k′ s b s′ b′ =
     (a : Result (ℕ × ℕ × ℕ) FinderFault) × (r ≡ looked a) × Finds c R m k a k′ s b s′ b′ (finding k (length s) (length b))
-Serves c R m DrawAndSign k r k′ s b s′ b′ = Unserved 10 k r k′ s b s′ b′
+Serves c R m DrawAndSign k r k′ s b s′ b′ = Makes (given (drawing k)) (drawnAndSigned (drawing k)) k r k′ s b s′ b′
 
 -- a line asks for what its frame does, or holds no frame and is refused with the kind that it shows
 abbrev pub Asks : Choice → (ℕ → Type 0) → ℕ → List ℕ → ℕ → State → Result Reply LineFault → State → List Row → List ℕ → List Row → List ℕ → Type 0

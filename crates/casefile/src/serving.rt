@@ -13,7 +13,6 @@ use cases::Case;
 use deciders::Decider;
 use deciders::Row;
 use frames::Frame;
-use frames::FrameFault;
 use pickers::Picker;
 use rules::Facts;
 use rules::Refusal;
@@ -36,7 +35,7 @@ fn reply_to(made: Result<(), Refusal>) -> Result<Reply, LineFault>
     Ok(Reply::Done)
 }
 
-/// Makes the call that a frame asks for. A frame that draws and signs is not served yet.
+/// Makes the call that a frame asks for.
 pub fn serve<D: Decider, P: Picker>(
     frame: &Frame,
     case: &mut Case,
@@ -77,6 +76,6 @@ pub fn serve<D: Decider, P: Picker>(
             let (set, size, length) = case.find(decider, picker, sheet, book)?;
             Ok(Reply::Found { set, size, length })
         }
-        Frame::DrawAndSign => Err(LineFault::Frame(FrameFault::UnknownKind(frame.kind()))),
+        Frame::DrawAndSign => reply_to(case.draw_and_sign()),
     }
 }

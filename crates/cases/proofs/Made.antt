@@ -40,9 +40,9 @@ use Rattle.cases.specs.declared.call.Call.the-variants.{Open, Grant, Lapse, Pu
 use Rattle.cases.specs.declared.call.Answer.{Answer}
 use Rattle.cases.specs.declared.call.Answer.the-variants.{Done, Found, Drawn}
 use Rattle.cases.specs.State.{State, fresh, knownOf, opening, opened, naming, putting, ordering, withdrawing, carrying, put, grant, lapse, order, cancel, withdraw, carry}
-use Rattle.cases.specs.Slips.{drawing, drawn, withSlip, isOut, finds, deciding, signed, torn}
+use Rattle.cases.specs.Slips.{drawing, given, drawn, withSlip, isOut, finds, deciding, signed, torn}
 use Rattle.cases.specs.Finding.{finding, found, zeroRow, Answered, Finds}
-use Rattle.cases.specs.Plain.{Plain, plain, refused, ofCase, given, turnedDown, met, rule, unless, next, replay, setFound}
+use Rattle.cases.specs.Plain.{Plain, plain, refused, ofCase, turnedDown, met, rule, unless, next, replay, setFound}
 use Rattle.cases.specs.Making.{Searched, Makes}
 use Rattle.cases.specs.Law.{Found-truly, Left, Looks, Promised, Keeps, Runs, start, then, paired, Law}
 

@@ -17,7 +17,7 @@ use Rattle.cases.specs.declared.call.Call.the-variants.{Open, Grant, Lapse, Pu
 use Rattle.cases.specs.declared.call.Answer.{Answer}
 use Rattle.cases.specs.declared.call.Answer.the-variants.{Done, Found, Drawn}
 use Rattle.cases.specs.State.{State, fresh, opening, opened, naming, putting, ordering, withdrawing, carrying, put, grant, lapse, order, cancel, withdraw, carry}
-use Rattle.cases.specs.Slips.{drawing, withSlip, deciding, signed, torn}
+use Rattle.cases.specs.Slips.{drawing, given, withSlip, deciding, signed, torn}
 use Rattle.cases.specs.Finding.{finding}
 
 -- the number of the case, its task, its finding, and whether a slip is out
@@ -41,11 +41,6 @@ listless p = record { number = p .number; task = p .task; groups = []; finding =
 abbrev pub ofCase : Result Unit Refusal → Result Unit FinderFault
 ofCase (Ok u) = Ok tt
 ofCase (Err e) = Err (Case e)
-
--- whether a slip is drawn, without what it says
-abbrev pub given : Result (ℕ × ℕ) Refusal → Result Unit Refusal
-given (Ok d) = Ok tt
-given (Err e) = Err e
 
 -- why a plain case refuses a call, or not
 abbrev pub refused : Plain → Call → Result Unit FinderFault

@@ -23,6 +23,11 @@ worthDrawing (Some s) number = cond (eqb s 0) (Err NoFinding) (Ok (number, s))
 abbrev pub drawing : State → Result (ℕ × ℕ) Refusal
 drawing k = cond (eqb (k .task .n) 0) (Err Unopened) (cond (k .slipOut) (Err SlipOut) (worthDrawing (k .finding) (k .number)))
 
+-- whether a slip is drawn, without what it says
+abbrev pub given : Result (ℕ × ℕ) Refusal → Result Unit Refusal
+given (Ok d) = Ok tt
+given (Err e) = Err e
+
 -- what a slip says, or why none was drawn
 abbrev pub slipData : Result Slip Refusal → Result (ℕ × ℕ) Refusal
 slipData (Ok slip) = Ok (slip .number, slip .«set»)
@@ -62,3 +67,8 @@ signed s k = withSlip false (changed (waivedToo s) k)
 -- tear changes only that the slip is in
 abbrev pub torn : State → State
 torn k = withSlip false k
+
+-- what is left where a slip is signed as soon as it is drawn
+abbrev pub drawnAndSigned : Result (ℕ × ℕ) Refusal → State → State
+drawnAndSigned (Ok (number, s)) k = signed s k
+drawnAndSigned (Err e) k = k

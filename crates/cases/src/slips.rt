@@ -3,7 +3,7 @@
 ghost use mathlib.Core.Path.{_≡_};
 ghost use Rattle.rules.specs.Refusals.{after};
 ghost use Rattle.cases.specs.State.{view};
-ghost use Rattle.cases.specs.Slips.{drawing, drawn, slipData, deciding, signed, torn, HandsBack};
+ghost use Rattle.cases.specs.Slips.{drawing, drawn, slipData, given, deciding, signed, torn, drawnAndSigned, HandsBack};
 use crate::case::Case;
 use crate::slip::Slip;
 use rules::Facts;
@@ -45,6 +45,25 @@ impl Case {
         }
     }
 
+    /// Waives a set for good: the finding is forgotten, the group list emptied, and the slip is in.
+    fn waive(&mut self, set: Facts)
+        ensures { λ _. ⌜ view (now (self .exit)) ≡ signed «set» (view (now (self .entry))) ⌝ }
+    {
+        self.known.waive(set);
+        self.finding = None;
+        self.slip_out = false;
+    }
+
+    /// Draws a slip for the finding and signs it at once.
+    pub fn draw_and_sign(&mut self) -> Result<(), Refusal>
+        ensures answer { λ r. ⌜ r ≡ given (drawing (view (now (self .entry)))) ⌝ }
+        ensures after { λ r. ⌜ view (now (self .exit)) ≡ drawnAndSigned (drawing (view (now (self .entry)))) (view (now (self .entry))) ⌝ }
+    {
+        let Slip { number: _, set } = self.draw()?;
+        self.waive(set);
+        Ok(())
+    }
+
     /// Signs a slip: its set is waived, the finding is forgotten and the group list emptied. A refusal hands the slip back.
     pub fn sign(&mut self, slip: Slip) -> Result<(), (Slip, Refusal)>
         ensures answer { λ r. ⌜ HandsBack slip (deciding (view (now (self .entry))) (slip .number) (slip .«set»)) r ⌝ }
@@ -54,9 +73,7 @@ impl Case {
             return Err((slip, refusal));
         }
         let Slip { number: _, set } = slip;
-        self.known.waive(set);
-        self.finding = None;
-        self.slip_out = false;
+        self.waive(set);
         Ok(())
     }
 
