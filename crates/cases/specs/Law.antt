@@ -35,11 +35,12 @@ Found-truly R m k k′ b (Err (Decider (BeyondReach s j))) = (R s → ⊥) × (j
 Found-truly R m k k′ b (Err (ListFull h)) =
     (length (k′ .groups) ≡ 64) × Listed (knownOf k′) × ((x : ℕ) → Good (k .task) x → Hits (k′ .groups) x)
 
--- what find leaves in the sheet and the book: a refused one what was there; else the rows are zero, and the places past the plan are 255
+-- past the plan, and everywhere where there is none, the book has 255
 abbrev pub Shown : Result (ℕ × ℕ × ℕ) FinderFault → List ℕ → Type 0
 Shown (Ok (s, count, n)) b = b ≡ take n b ++ replicate (length b - n) 255
 Shown (Err e) b = b ≡ replicate (length b) 255
 
+-- what find leaves in sheet and book: a refused one what was there; any other zeros in all rows, and the plan alone in the book
 abbrev pub Left : Result Unit FinderFault → Result (ℕ × ℕ × ℕ) FinderFault → List Row → List ℕ → List Row → List ℕ → Type 0
 Left (Err e) r s b s′ b′ = (s′ ≡ s) × (b′ ≡ b)
 Left (Ok u) r s b s′ b′ = (s′ ≡ replicate (length s) zeroRow) × (length b′ ≡ length b) × Shown r b′
