@@ -10,7 +10,7 @@ one that find may query; 'list full' needs a blocked set of low enough rank and 
 
     scripts/judge.py PROGRAM --seed 1 --files 1000     judge so many random files
     scripts/judge.py PROGRAM --file F                  judge one case file
-    --kinds 01,02,09    the kinds that the program serves (01 to 09 else)
+    --kinds 01,02,09    the kinds that the program serves (01 to 0A else)
     --lists             also foretell every end of find, with the groups entered as docs/RULES.md writes it
     --families a,b      only files of these families
     --keep DIR          write the case files and the reports into DIR
@@ -337,7 +337,7 @@ def options_given():
     parser.add_argument("--files", type=int, default=1000)
     parser.add_argument("--file")
     parser.add_argument("--keep", type=Path)
-    parser.add_argument("--kinds", type=byte_list, default=set(range(0x01, 0x0A)))
+    parser.add_argument("--kinds", type=byte_list, default=set(range(0x01, 0x0B)))
     parser.add_argument("--lists", action="store_true")
     parser.add_argument("--families", type=family_list, default=list(FAMILIES))
     return parser.parse_args()
