@@ -1,5 +1,7 @@
 //! Case files: each line asks one thing of a case and gets one report line.
 
+#![tactic(auto)]
+
 mod fault;
 mod reading;
 mod serving;

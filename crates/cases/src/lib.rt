@@ -1,5 +1,7 @@
 //! The case: its calls, the plan check and find.
 
+#![tactic(auto)]
+
 mod call;
 mod calls;
 mod case;

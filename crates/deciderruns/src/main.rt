@@ -1,5 +1,7 @@
 //! Runs of the deciders: worked cases, limits, long plans, and random problems against a naive second way.
 
+#![tactic(auto)]
+
 use deciders::{Backward, Forward, Screen};
 use rules::{Problem, Refusal};
 use std::io;

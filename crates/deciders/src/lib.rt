@@ -1,5 +1,7 @@
 //! Deciders: whether a struck-out problem has a plan, answered exactly within a stated reach.
 
+#![tactic(auto)]
+
 mod action;
 mod answer;
 mod backward;

@@ -1,5 +1,7 @@
 //! The licence desk: a case file from standard input, and one report line for each of its lines on standard output.
 
+#![tactic(auto)]
+
 ghost use Rattle.std.specs.Prelude.{◌≤◌, length, IfOk};
 
 use casefile::{MAX_TEXT, MIN_REPORT, Progress, Reading};

@@ -1,5 +1,7 @@
 //! The waiver finder once more, run on a case file with every call that changes the problem, made and refused.
 
+#![tactic(auto)]
+
 use desk::serve_input;
 
 fn main(rt: HostRuntime) -> anyhow::Result<()> {

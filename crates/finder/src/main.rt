@@ -1,5 +1,7 @@
 //! The waiver finder: reads a case file from standard input and writes one report line for each of its lines.
 
+#![tactic(auto)]
+
 use desk::serve_input;
 
 fn main(rt: HostRuntime) -> anyhow::Result<()> {

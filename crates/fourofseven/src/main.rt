@@ -1,5 +1,7 @@
 //! The waiver finder once more, run on a case in which any four of seven facts have to go.
 
+#![tactic(auto)]
+
 use desk::serve_input;
 
 fn main(rt: HostRuntime) -> anyhow::Result<()> {

@@ -1,5 +1,7 @@
 //! Case files and report lines, to the byte: digits, lines, frames and what a report line holds.
 
+#![tactic(auto)]
+
 mod digits;
 mod frame;
 mod lines;

@@ -1,5 +1,7 @@
 //! Makes a long list of calls, accepted and refused, on a fresh case, by two deciders and two pickers, and prints what each call answers.
 
+#![tactic(auto)]
+
 use cases::{Answer, Call, run};
 use deciders::{Backward, Decider, DeciderFault, Forward, Screen};
 use pickers::{BranchingPicker, CountingPicker, Picker};

@@ -1,5 +1,7 @@
 //! Has both pickers pick for long lists, where a walk through all sets would take minutes, and prints what they answer.
 
+#![tactic(auto)]
+
 ghost use Rattle.std.specs.Prelude.{◌≡◌, ◌≤◌, IfOk, vec_len};
 
 use pickers::{BranchingPicker, CountingPicker, Picker};

@@ -2,6 +2,8 @@
 //!
 //! Of the counting picker it prints the set, of the branching picker, whose set is free, the size and whether it meets every group.
 
+#![tactic(auto)]
+
 ghost use Rattle.std.specs.Prelude.{◌≡◌};
 ghost use Rattle.pickers.specs.Choices.{meets_all};
 

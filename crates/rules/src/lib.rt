@@ -1,5 +1,7 @@
 //! The rules: sets of facts, licence steps, planning problems, and the theorems that the finder rests on.
 
+#![tactic(auto)]
+
 mod check;
 mod facts;
 mod problem;

@@ -1,5 +1,7 @@
 //! Smallest waivers: a problem with the groups that are known of it, and the search for a smallest good set.
 
+#![tactic(auto)]
+
 mod examples;
 mod fault;
 mod grow;
