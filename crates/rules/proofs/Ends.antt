@@ -1,11 +1,11 @@
 -- A listing comes to an end: different numbers below n are at most n.
-use Rattle.std.proofs.Common.{◌≡◌, ℕ, zero, suc, ◌+◌, ◌^◌, ◌<◌, ◌≤◌, ◌⊎◌, List, [], ◌∷◌, length, get_or, sym, refl, ap, ◌∙◌, subst, inl, inr, arith}
+use Rattle.std.proofs.Common.{◌≡◌, ℕ, zero, suc, ◌+◌, ◌^◌, ◌<◌, ◌≤◌, List, length, get_or, sym, ◌∙◌, inl, inr, arith}
 use native.Mathlib.Decide.{dec_lt, dec_le}
 use Rattle.std.specs.List.{remove}
 use Rattle.std.proofs.lemmas.List.Edits.{length-remove, get_or-remove_below, get_or-remove_above}
 use Rattle.rules.specs.Listing.{listing}
 use Rattle.rules.specs.Theorems.{ListingEnds}
-use Rattle.rules.proofs.Listing.{At, Apart, at_or_not, apart_listing, listed_reached}
+use Rattle.rules.proofs.Listing.{Apart, at_or_not, apart_listing, listed_reached}
 
 abbrev Below : ℕ → List ℕ → Type 0
 Below n l = (i : ℕ) → i < length l → get_or l i 0 < n

@@ -1,10 +1,9 @@
 -- Plans: one simulation gives all that never blocks.
-use Rattle.std.proofs.Common.{◌≡◌, ℕ, zero, suc, ◌≤◌, List, [], ◌∷◌, map, get_or, set, Some, None, Option, sym, refl, ap, ◌∙◌, subst, arith}
+use Rattle.std.proofs.Common.{◌≡◌, ℕ, zero, suc, List, [], ◌∷◌, get_or, set, Some, None, Option, sym, refl, ap, ◌∙◌, subst, arith}
 use lib.ListN.{get_or-map}
-use lib.Bits.{bit_and, bit_or}
 use Rattle.rules.specs.declared.step.Step.{Step}
-use Rattle.rules.specs.Sets.{bit, ◌∈◌, ◌⊆◌, ◌∪◌, ◌∖◌, Meets}
-use Rattle.rules.specs.Planning.{Task, held, done, Leads, Plan, Walk, step_without, place_without, gone, strike, Solvable, Blocked, standing_at, ordering, holding}
+use Rattle.rules.specs.Sets.{bit, ◌⊆◌, ◌∪◌}
+use Rattle.rules.specs.Planning.{Task, held, done, Leads, Plan, Walk, step_without, place_without, gone, strike, standing_at, ordering, holding}
 use Rattle.rules.specs.Theorems.{StrikingMore, OrderingLess, StandingMore, AdditionalStep, Emptying, Doing, PlansWalk}
 use Rattle.rules.proofs.Sets.{bits}
 

@@ -1,11 +1,10 @@
 -- Sets of facts, digit by digit.
-use Rattle.std.proofs.Common.{◌≡◌, ℕ, zero, suc, ◌+◌, ◌-◌, ◌*◌, ◌/◌, ◌%◌, ◌^◌, ◌<◌, ◌≤◌, min, max, Bool, true, false, not, T, eqb, ◌⊎◌, sym, refl, ap, ◌∙◌, subst, inl, inr, le_of_eq, eq-zero-or-pos, one-add, arith, eqb→eq, T_not, pow_pos}
+use Rattle.std.proofs.Common.{◌≡◌, ℕ, zero, suc, ◌+◌, ◌-◌, ◌/◌, ◌%◌, ◌^◌, ◌<◌, ◌≤◌, min, max, Bool, true, false, not, T, eqb, ◌⊎◌, sym, refl, ap, ◌∙◌, subst, inl, inr, le_of_eq, eq-zero-or-pos, one-add, arith, eqb→eq, T_not, pow_pos}
 use native.Mathlib.Decide.{dec_lt}
 use lib.Count.{ones, ones_step, ones-ones}
 use Rattle.std.proofs.lemmas.Nat.{shr-shr}
 use lib.Arith.{bin_ind}
 use lib.Bits.{bit_and, bit_or, bit_xor, differ, and_step, or_step, xor_step, and_shr, or_shr, xor_shr}
-use lib.Dec.{eqb_refl}
 use Rattle.rules.specs.Sets.{bit, ◌∈◌, ◌∖◌, ◌⊆◌, ◌∪◌, ◌∩◌, Meets, single, below, size, inside, SetsMean, SizesMean}
 
 -- the lowest digit of each operation

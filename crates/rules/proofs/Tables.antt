@@ -1,5 +1,5 @@
 -- The step places: what holds of each step, and what is past the last place.
-use Rattle.std.proofs.Common.{◌≡◌, ℕ, zero, suc, ◌<◌, ◌≤◌, Bool, true, false, not, T, eqb, List, [], ◌∷◌, length, get_or, set, replicate, Some, None, Option, sym, refl, ap, ◌∙◌, subst, arith, eqb→eq}
+use Rattle.std.proofs.Common.{◌≡◌, ℕ, zero, suc, ◌≤◌, Bool, true, false, not, T, eqb, List, [], ◌∷◌, length, get_or, set, replicate, Some, None, Option, sym, refl, subst, arith, eqb→eq}
 use lib.Bits.{bit_and}
 use Rattle.rules.specs.declared.step.Step.{Step}
 

@@ -1,5 +1,5 @@
 -- Worked examples: a small task C, written out, and what holds of it.
-use Rattle.std.specs.Prelude.{◌≡◌, ℕ, List, [], ◌∷◌, replicate, Some, None, Option}
+use Rattle.std.specs.Prelude.{ℕ, [], ◌∷◌, replicate, Some, None, Option}
 use Rattle.rules.specs.declared.step.Step.{Step}
 use Rattle.rules.specs.Planning.{Task, Plan, strike, Blocked}
 use Rattle.rules.specs.Waivers.{Good, Group, Smallest, Hits}

@@ -1,7 +1,7 @@
 -- Listings: from a first entry on, each entry in turn adds what the steps make of it. Forward, an entry is a standing.
-use Rattle.std.specs.Prelude.{◌≡◌, ℕ, zero, suc, ◌<◌, ◌≤◌, Bool, true, false, cond, ◌||◌, T, ◌⊎◌, List, [], ◌∷◌, ◌++◌, length, Some, None, Option, ◌==◌, nat_lt, slice_index, slice_index_or}
+use Rattle.std.specs.Prelude.{◌≡◌, ℕ, zero, suc, ◌<◌, ◌≤◌, Bool, false, cond, ◌||◌, ◌⊎◌, List, [], ◌∷◌, ◌++◌, length, Some, None, Option, ◌==◌, nat_lt, slice_index, slice_index_or}
 use Rattle.rules.specs.declared.step.Step.{Step}
-use Rattle.rules.specs.Sets.{◌⊆◌, inside}
+use Rattle.rules.specs.Sets.{inside}
 use Rattle.rules.specs.Planning.{Task, done}
 
 -- what a step makes of an entry: another entry, or nothing

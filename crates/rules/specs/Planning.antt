@@ -1,8 +1,8 @@
 -- Planning: tasks, doing a step, plans, and striking facts out.
-use Rattle.std.specs.Prelude.{◌≡◌, ℕ, ◌+◌, List, [], ◌∷◌, map, Some, None, Option, slice_index_or}
+use Rattle.std.specs.Prelude.{◌≡◌, ℕ, List, [], ◌∷◌, map, Some, None, Option, slice_index_or}
 use Rattle.rules.specs.declared.step.Step.{Step}
 use Rattle.rules.specs.declared.problem.Problem.{Problem}
-use Rattle.rules.specs.Sets.{◌∈◌, ◌⊆◌, ◌∪◌, ◌∖◌, Meets}
+use Rattle.rules.specs.Sets.{◌⊆◌, ◌∪◌, ◌∖◌, Meets}
 
 -- What a case is planned over: the number of facts, the facts that stand, those ordered, those waived, and the steps by their places.
 pub record Task : Type 0 where

@@ -1,10 +1,10 @@
 -- What is proved of the rules.
-use Rattle.std.specs.Prelude.{◌≡◌, ℕ, ◌^◌, ◌<◌, ◌≤◌, ◌⊎◌, ◌↔◌, List, [], ◌∷◌, length, set, Some, None, Option, ◌≢◌, slice_index, slice_index_or, slice_set}
+use Rattle.std.specs.Prelude.{◌≡◌, ℕ, ◌^◌, ◌<◌, ◌≤◌, ◌⊎◌, ◌↔◌, List, length, Some, None, Option, ◌≢◌, slice_index, slice_index_or, slice_set}
 use Rattle.std.specs.Simd.Lanes.{Each1}
 use Rattle.rules.specs.declared.step.Step.{Step}
-use Rattle.rules.specs.Sets.{◌∈◌, ◌⊆◌, ◌∪◌, ◌∖◌, Meets, size}
+use Rattle.rules.specs.Sets.{◌⊆◌, ◌∖◌, Meets, size}
 use Rattle.rules.specs.Planning.{Task, held, done, Plan, Walk, strike, Solvable, Blocked, standing_at, ordering, holding}
-use Rattle.rules.specs.Waivers.{waivable, Good, Group, MinimalGroup, Hits, Smallest, LargestBlocked}
+use Rattle.rules.specs.Waivers.{waivable, Good, Group, MinimalGroup, Smallest, LargestBlocked}
 use Rattle.rules.specs.Listing.{Successor, listing, Whole, Path, forward, standings}
 
 -- ---- what never blocks

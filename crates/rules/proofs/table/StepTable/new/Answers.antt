@@ -3,5 +3,5 @@ use lib.Bits.{bit_and}
 use Rattle.rules.proofs.Tables.{each_none}
 use Rattle.rules.proofs.table.StepTable.new.Goals as goal
 
-pub invariant-of-result : goal.invariant-of-result
-invariant-of-result c = (refl, (each_none (λ t. bit_and t.gives t.takes ≡ 0) 64, tt))
+pub invariant_of-result : goal.invariant_of-result
+invariant_of-result c = record { count = refl; consistent = each_none (λ t. bit_and t.gives t.takes ≡ 0) 64 }
