@@ -1,5 +1,5 @@
 -- The bytes of report lines, put together from their parts.
-use Rattle.std.proofs.Common.{◌≡◌, ℕ, List, [], ◌∷◌, ◌++◌, length, get_or, Option, sym, refl, ap, ◌∙◌, subst}
+use Rattle.std.proofs.Common.{◌≡◌, ℕ, List, ◌∷◌, length, get_or, Option, ap, ◌∙◌, subst}
 use Rattle.frames.specs.declared.report.Refused.{Refused}
 use Rattle.frames.specs.Numbers.{word_bytes, half_bytes}
 use Rattle.frames.specs.Reports.{added_bytes, refused_bytes, found_bytes, Printed}

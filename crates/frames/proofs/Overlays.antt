@@ -1,6 +1,6 @@
 -- Digits written into a buffer, one after another.
 use Rattle.std.proofs.Common.{◌≡◌, ℕ, ◌+◌, ◌*◌, ◌/◌, ◌%◌, ◌<◌, ◌≤◌, List, [], ◌∷◌, ◌++◌, length, get_or, take, drop, set, Some, sym, refl, ap, ◌∙◌, arith}
-use Rattle.std.proofs.lemmas.List.{append_assoc, append-nil, length-append, length-take-le, take-append-drop, take_at, drop_at, drop-drop, drop_more, take_more, take_all, set_at, flat_map_more}
+use Rattle.std.proofs.lemmas.List.{append_assoc, length-append, length-take-le, take-append-drop, take_at, drop_at, drop-drop, drop_more, take_more, set_at, flat_map_more}
 use Rattle.frames.specs.Digits.{capital, capitals, written}
 use Rattle.frames.specs.Reports.{overlaid, report_line, Printed}
 use Rattle.frames.proofs.Spelling.{length_written}

@@ -1,8 +1,8 @@
 -- Digits and the bytes that they spell: written digits are read back, and a line spells one list of bytes at most.
-use Rattle.std.proofs.Common.{◌≡◌, ℕ, zero, suc, ◌+◌, ◌-◌, ◌*◌, ◌/◌, ◌%◌, ◌<◌, ◌≤◌, Bool, true, false, cond, List, [], ◌∷◌, ◌++◌, length, get_or, Some, None, Option, sym, refl, ap, ◌∙◌, arith, rules}
+use Rattle.std.proofs.Common.{◌≡◌, ℕ, zero, suc, ◌+◌, ◌*◌, ◌/◌, ◌%◌, ◌<◌, List, [], ◌∷◌, length, get_or, Some, refl, ap, ◌∙◌, arith}
 use Rattle.std.proofs.lemmas.List.{ext_get_or}
 use Rattle.std.proofs.lemmas.Bool.Decides.{nat_tests}
-use Rattle.frames.specs.Digits.{digit_of, Pair, Spells, Bytes, capital, capitals, written}
+use Rattle.frames.specs.Digits.{digit_of, Pair, Spells, Bytes, capital, written}
 
 -- the written digit of a value is worth that value
 pub digit_of_capital : (v : ℕ) → v < 16 → digit_of (capital v) ≡ Some v

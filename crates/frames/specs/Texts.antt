@@ -1,5 +1,5 @@
 -- The lines of a text: a line feed (byte 10) ends a line, and the last line may lack it.
-use Rattle.std.specs.Prelude.{◌≡◌, ℕ, ◌+◌, ◌<◌, ◌≤◌, ◌≢◌, ◌⊎◌, List, ◌∷◌, ◌++◌, length, drop, slice_index}
+use Rattle.std.specs.Prelude.{◌≡◌, ℕ, ◌+◌, ◌<◌, ◌≢◌, ◌⊎◌, List, ◌∷◌, ◌++◌, length, drop, slice_index}
 
 -- no character of the line is a line feed
 abbrev pub Unbroken : List ℕ → Type 0

@@ -1,11 +1,11 @@
-use Rattle.std.proofs.Common.{◌≡◌, ℕ, ◌+◌, ◌*◌, ◌/◌, ◌<◌, min, List, length, get_or, sym, subst, arith, rules}
+use Rattle.std.proofs.Common.{ℕ, ◌+◌, ◌/◌, ◌<◌, List, length, get_or, sym, subst, arith, rules}
 use Rattle.frames.specs.Frames.{Decoded}
 use Rattle.frames.proofs.Decoding.{Held, held-written, held-passed, decoded-all}
 use Rattle.frames.proofs.frame.decode.Goals as goal
 use Rattle.frames.proofs.frame.decode.Goals.{then-i-buffer, else-i-buffer}
 
-pub returns-in-default : goal.returns-in-default
-returns-in-default c = λ bytes spelled. c.in-default.ensures (get_or bytes c.loop-i.i 0) (spelled.1 c.loop-i.i (omega (arith, spelled.0)))
+pub returns-in_default : goal.returns-in_default
+returns-in_default c = λ bytes spelled. c.in_default.ensures (get_or bytes c.loop-i.i 0) (spelled.1 c.loop-i.i (omega (arith, spelled.0)))
 
 pub loop-i-preserved : goal.loop-i-preserved
 loop-i-preserved c =

@@ -1,5 +1,5 @@
-use Rattle.std.proofs.Common.{arith, rules}
-use Rattle.frames.proofs.Lengths.{some_frame_of_kind, kind_low, kind_high}
+use Rattle.std.proofs.Common.{rules}
+use Rattle.frames.proofs.Lengths.{some_frame_of_kind}
 use Rattle.frames.proofs.frame.is_kind.Goals as goal
 
 pub returns-in-1-to-10 : goal.returns-in-1-to-10

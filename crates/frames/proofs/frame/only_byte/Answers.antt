@@ -1,4 +1,4 @@
-use Rattle.std.proofs.Common.{arith, rules}
+use Rattle.std.proofs.Common.{rules}
 use Rattle.frames.proofs.Words.{single}
 use Rattle.frames.proofs.frame.only_byte.Goals as goal
 

@@ -1,4 +1,4 @@
-use Rattle.std.proofs.Common.{◌≡◌, ℕ, ◌-◌, List, length, take, subst, arith, rules}
+use Rattle.std.proofs.Common.{◌≡◌, ℕ, ◌-◌, List, take, subst, rules}
 use Rattle.frames.specs.Frames.{Means}
 use Rattle.frames.proofs.Decoding.{reads-from}
 use Rattle.frames.proofs.frame.read_frame.Goals as goal
@@ -7,5 +7,5 @@ pub returns-in-Some : goal.returns-in-Some
 returns-in-Some c =
     let decoded = c.in-Some.ensures in
     let same : take (c.in-Some.count - 0) c.decode.new.buffer ≡ take 15 decoded.0 = search rules in
-    reads-from c.args.line.now decoded.0 decoded.1 c.frame-of.result
-    (subst (λ (bytes : List ℕ). Means bytes c.frame-of.result) same c.frame-of.ensures)
+    reads-from c.args.line.now decoded.0 decoded.1 c.frame_of.result
+    (subst (λ (bytes : List ℕ). Means bytes c.frame_of.result) same c.frame_of.ensures)

@@ -6,5 +6,5 @@ use Rattle.frames.proofs.numbers.word.Goals as goal
 
 pub returns-in-len4-up : goal.returns-in-len4-up
 returns-in-len4-up c =
-    ap (λ (rest : List ℕ). word_bytes c.from-be-bytes.result ++ rest) (take_rest c.args.bytes.now 4)
-    ∙ word-front c.args.bytes.now c.from-be-bytes.result (search rules) (λ i. search rules) (search rules)
+    ap (λ (rest : List ℕ). word_bytes c.from_be_bytes.result ++ rest) (take_rest c.args.bytes.now 4)
+    ∙ word-front c.args.bytes.now c.from_be_bytes.result (search rules) (λ i. search rules) (search rules)

@@ -1,4 +1,4 @@
-use Rattle.std.proofs.Common.{◌≡◌, ℕ, ◌+◌, ◌*◌, List, length, get_or, take, set, refl, ap, ◌∙◌, arith, rules}
+use Rattle.std.proofs.Common.{ℕ, ◌+◌, ◌*◌, List, get_or, set, refl, ap, ◌∙◌}
 use Rattle.std.proofs.lemmas.List.{take_all}
 use Rattle.frames.specs.Digits.{written}
 use Rattle.frames.specs.Reports.{overlaid}
@@ -12,13 +12,13 @@ pub loop-i-preserved : goal.loop-i-preserved
 loop-i-preserved c =
     let p = c.args.position in
     let i = c.loop-i.i in
-    let pair = c.hex-pair.result in
+    let pair = c.hex_pair.result in
     let h : ℕ = get_or pair 0 0 in
     let l : ℕ = get_or pair 1 0 in
     ap (λ (b : List ℕ). set (set b (p + 2 * i) h) (p + 2 * i + 1) l) c.loop-i.invariant
     ∙ digits_more c.args.bytes.now c.args.buffer.now p i h l
     c.loop-i-test.true c.requires
-    (ap (λ (d : List ℕ). get_or d 0 0) c.hex-pair.ensures) (ap (λ (d : List ℕ). get_or d 1 0) c.hex-pair.ensures)
+    (ap (λ (d : List ℕ). get_or d 0 0) c.hex_pair.ensures) (ap (λ (d : List ℕ). get_or d 1 0) c.hex_pair.ensures)
 
 pub returns : goal.returns
 returns c =

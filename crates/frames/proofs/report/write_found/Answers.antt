@@ -1,4 +1,4 @@
-use Rattle.std.proofs.Common.{◌≡◌, ℕ, length, sym, refl, ap, ◌∙◌, arith, rules}
+use Rattle.std.proofs.Common.{◌≡◌, length, arith, rules}
 use Rattle.frames.specs.Numbers.{half_bytes}
 use Rattle.frames.specs.Reports.{found_bytes}
 use Rattle.frames.proofs.Contents.{printed-as, found_parts, found-parts}
@@ -7,16 +7,16 @@ use Rattle.frames.proofs.report.write_found.Goals as goal
 pub returns : goal.returns
 returns c =
     let places = c.args.places.now in
-    let word = c.word-bytes.result in
-    let half = c.half-bytes.result in
+    let word = c.word_bytes.result in
+    let half = c.half_bytes.result in
     let counted : c.in-Ok.count ≡ length places = search rules in
-    let shown = c.half-bytes.ensures in
+    let shown = c.half_bytes.ensures in
     let counts : half ≡ half_bytes (length places) = cc in
     record {
       printed = λ few.
           printed-as (found_parts word c.args.size half places) (found_bytes c.args.facts c.args.size places)
-          c.args.buffer.now c.write-line.new.buffer c.write-line.result
-          (found-parts c.args.facts word c.args.size half places c.word-bytes.ensures counts)
-          c.write-line.ensures;
+          c.args.buffer.now c.write_line.new.buffer c.write_line.result
+          (found-parts c.args.facts word c.args.size half places c.word_bytes.ensures counts)
+          c.write_line.ensures;
       uncounted = λ many. absurd (omega (arith, c.in-Ok.ensures.0));
     }

@@ -1,4 +1,4 @@
-use Rattle.std.proofs.Common.{ℕ, ◌/◌, ◌%◌, ap, ◌∙◌, arith}
+use Rattle.std.proofs.Common.{ap, ◌∙◌, arith}
 use Rattle.frames.specs.Numbers.{word_bytes, half_bytes}
 use Rattle.frames.proofs.Words.{bytes-of-word, bytes_of_half, number_of_four, number_of_two}
 use Rattle.frames.proofs.theorems.written_numbers_read_back.Goals as goal
