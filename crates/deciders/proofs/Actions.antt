@@ -1,5 +1,5 @@
 -- The steps that are left once facts are struck out: how their list is made, and that it lists what the places list.
-use Rattle.std.proofs.Common.{◌≡◌, ℕ, zero, suc, ◌+◌, ◌-◌, ◌<◌, ◌≤◌, cond, ltb, List, [], ◌∷◌, ◌++◌, map, length, get_or, take, drop, set, Some, None, Option, sym, refl, ap, ◌∙◌, subst, arith}
+use Rattle.std.proofs.Common.{◌≡◌, ℕ, zero, suc, ◌+◌, ◌-◌, ◌<◌, ◌≤◌, cond, ltb, List, [], ◌∷◌, ◌++◌, map, length, get_or, take, drop, set, Some, None, Option, sym, refl, ap, ◌∙◌, arith}
 use lib.Seq.{append_snoc}
 use Rattle.std.proofs.lemmas.List.{take_more_set, at_drop_more, at_drop_all, append-nil}
 use Rattle.rules.specs.declared.step.Step.{Step}

@@ -1,10 +1,10 @@
 -- What a backward search says of plans.
-use Rattle.std.proofs.Common.{◌≡◌, ℕ, ◌+◌, ◌<◌, ◌≤◌, Bool, true, false, cond, T, ◌⊎◌, List, [], ◌∷◌, ◌++◌, reverse, length, get_or, Some, None, Option, sym, refl, ap, ◌∙◌, subst, inl, inr, arith}
+use Rattle.std.proofs.Common.{◌≡◌, ℕ, ◌+◌, Bool, true, false, cond, T, List, [], ◌∷◌, ◌++◌, reverse, get_or, Some, None, sym, refl, ap, ◌∙◌, subst, inl, inr, arith}
 use mathlib.Core.List.{reverse-append, reverse-reverse}
 use Rattle.rules.specs.declared.step.Step.{Step}
 use Rattle.rules.specs.Sets.{bit, ◌⊆◌, ◌∪◌, ◌∖◌, Meets}
-use Rattle.rules.specs.Planning.{Task, held, done, Walk, Plan, strike, gone, step_without, Consistent}
-use Rattle.rules.specs.Listing.{Path, forward, listing}
+use Rattle.rules.specs.Planning.{Task, held, done, Walk, Plan, strike, gone, Consistent}
+use Rattle.rules.specs.Listing.{Path, forward}
 use Rattle.rules.proofs.Sets.{bits, meets_or_apart, apart→, share_test, test_share}
 use Rattle.rules.proofs.Plans.{held_struck, some_without, leads→, →leads}
 use Rattle.rules.proofs.Listing.{T→true, path_push, listed_reached, reached_listed}

@@ -1,13 +1,12 @@
 -- Closures: one round, the closure as the last of many rounds, and what is outside it.
 use Rattle.std.proofs.Common.{◌≡◌, ℕ, zero, suc, ◌+◌, ◌<◌, ◌≤◌, ◌⊎◌, List, [], ◌∷◌, map, length, get_or, Some, None, Option, sym, refl, ap, ◌∙◌, subst, inl, inr, arith}
-use native.Mathlib.Decide.{dec_lt, dec_le}
+use native.Mathlib.Decide.{dec_lt}
 use Rattle.std.proofs.lemmas.Bool.{cases_eq}
 use Rattle.rules.specs.declared.step.Step.{Step}
 use Rattle.rules.specs.Sets.{bit, ◌⊆◌, ◌∪◌}
-use Rattle.rules.specs.Planning.{Task, held, done, Leads, place_without, step_without}
+use Rattle.rules.specs.Planning.{Task, done, Leads, place_without}
 use Rattle.rules.proofs.Sets.{bits, sub_le, same_facts, inside_dec}
 use Rattle.rules.proofs.Tables.{past_places}
-use Rattle.deciders.specs.declared.action.Action.{Action}
 use Rattle.deciders.specs.Closures.{Under, Closed, Closure, Round}
 use Rattle.deciders.specs.Searches.{actions_of, steps_of}
 use Rattle.deciders.specs.Theorems.{ClosureExists, ClosureUnique, ScreenedBlocked}

@@ -1,8 +1,8 @@
 -- What a forward search says of plans.
-use Rattle.std.proofs.Common.{◌≡◌, ℕ, ◌+◌, ◌<◌, ◌≤◌, List, ◌++◌, reverse, length, take, drop, sym, ap, ◌∙◌, subst, arith}
+use Rattle.std.proofs.Common.{◌≡◌, ℕ, ◌+◌, ◌≤◌, List, ◌++◌, reverse, length, take, drop, ap, ◌∙◌, arith}
 use Rattle.std.proofs.lemmas.List.{take_at, drop_at, length-reverse, length-take-le}
 use Rattle.rules.specs.Sets.{◌⊆◌}
-use Rattle.rules.specs.Planning.{Task, Plan, strike, Blocked}
+use Rattle.rules.specs.Planning.{Task, Plan}
 use Rattle.rules.specs.Listing.{forward}
 use Rattle.rules.proofs.Plans.{→leads}
 use Rattle.rules.proofs.Forwards.{forward_walks, whole_blocked}

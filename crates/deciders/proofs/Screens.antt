@@ -1,5 +1,5 @@
 -- What a screen answers, and what its reach is made of.
-use Rattle.std.proofs.Common.{◌≡◌, ℕ, ◌⊎◌, List, Ok, Err, Option, Result, sym, ap, subst, inl, inr}
+use Rattle.std.proofs.Common.{◌≡◌, ℕ, List, Ok, Err, Option, Result, subst, inl, inr}
 use Rattle.rules.specs.declared.step.Step.{Step}
 use Rattle.rules.specs.Sets.{◌⊆◌}
 use Rattle.rules.specs.Planning.{Task, strike}
@@ -8,7 +8,7 @@ use Rattle.deciders.specs.declared.answer.Verdict.TheVariants as verdict
 use Rattle.deciders.specs.declared.answer.DeciderFault.{DeciderFault}
 use Rattle.deciders.specs.Answers.{Sized, Answers}
 use Rattle.deciders.specs.Closures.{Closure}
-use Rattle.deciders.specs.Reaches.{ScreenedOut, ScreenReach}
+use Rattle.deciders.specs.Reaches.{ScreenReach}
 use Rattle.deciders.proofs.Closures.{closure_unique}
 
 -- the same answer, where one reach holds exactly where the other does

@@ -1,5 +1,5 @@
 -- What a sheet says of the rows that settle a search, and the paths that its rows are.
-use Rattle.std.proofs.Common.{◌≡◌, ℕ, zero, suc, ◌+◌, ◌-◌, ◌<◌, ◌≤◌, ◌⊎◌, List, [], ◌∷◌, ◌++◌, map, reverse, length, get_or, Some, None, Option, sym, refl, ap, ◌∙◌, subst, inl, inr, arith}
+use Rattle.std.proofs.Common.{◌≡◌, ℕ, ◌+◌, ◌<◌, ◌≤◌, List, [], ◌∷◌, map, reverse, length, get_or, Some, None, Option, sym, ap, ◌∙◌, subst, inl, inr, arith}
 use mathlib.Core.List.{reverse-append}
 use Rattle.rules.specs.declared.step.Step.{Step}
 use Rattle.rules.specs.Planning.{place_without}

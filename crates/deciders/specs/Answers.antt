@@ -10,6 +10,14 @@ use Rattle.deciders.specs.declared.answer.DeciderFault.TheVariants.{BeyondReach}
 abbrev pub Sized : ℕ → ℕ → Type 0
 Sized m b = (0 < m) × (m ≤ 4096) × (m ≤ b) × (b ≤ 4096)
 
+-- the queried set that a fault names
+abbrev pub set_of : DeciderFault → ℕ
+set_of (BeyondReach s k) = s
+
+-- the mark that a fault names
+abbrev pub mark_of : DeciderFault → ℕ
+mark_of (BeyondReach s k) = k
+
 -- a fault's number, its layer, and its values: the queried set and the decider's mark
 abbrev pub reported : DeciderFault → ℕ × ℕ × ℕ × ℕ
 reported (BeyondReach s k) = (21, 4, s, k)

@@ -1,6 +1,5 @@
 -- The reaches of the deciders that ship: which struck-out tasks they settle, with how many rows.
-use Rattle.std.specs.Prelude.{◌≡◌, ℕ, Bool, cond, not, ◌⊎◌, Some, None, Option, ◌==◌}
-use Rattle.rules.specs.declared.step.Step.{Step}
+use Rattle.std.specs.Prelude.{ℕ, Bool, cond, not, ◌⊎◌, Some, None, ◌==◌}
 use Rattle.rules.specs.Sets.{◌⊆◌, ◌∪◌, ◌∩◌, ◌∖◌}
 use Rattle.rules.specs.Planning.{Task, strike}
 use Rattle.rules.specs.Listing.{Successor, Settles, forward}

@@ -1,10 +1,10 @@
 //! What a decider answers.
 
-ghost use Rattle.std.specs.Prelude.{◌≡◌, Decides};
-ghost use Rattle.deciders.specs.Answers.{reported};
-ghost use Rattle.std.specs.Cmp.Rules.{comparing};
+ghost use Rattle.std.specs.Prelude.{◌≡◌, ◌==◌, Decides};
 ghost use Rattle.std.proofs.Common.{rules};
-ghost use Rattle.std.specs.Cmp as Keys;
+ghost use Rattle.std.specs.Cmp.Rules.{comparing};
+ghost use Rattle.std.specs.Ordering.{on, eq_of_both};
+ghost use Rattle.deciders.specs.Answers.{mark_of, reported, set_of};
 
 use rules::Facts;
 
@@ -25,11 +25,14 @@ pub enum DeciderFault {
 }
 
 impl PartialEq for DeciderFault {
-    ghost equals = { λ a b r. Decides r (a ≡ b) };
+    ghost eq = { eq_of_both (on set_of ◌==◌) (on mark_of ◌==◌) };
 
-    ghost laws = { Keys.partial_equiv_from_equiv (Prim.search (comparing, rules)) };
+    ghost laws = { Prim.search (comparing, rules) };
 
-    fn eq(&self, other: &DeciderFault) -> bool {
+    fn eq(&self, other: &DeciderFault) -> bool
+        ensures test { result ≡ eq_of_both (on set_of ◌==◌) (on mark_of ◌==◌) self.now other.now }
+        ensures same { Decides result (self.now ≡ other.now) }
+    {
         let DeciderFault::BeyondReach { set, mark } = *self;
         let DeciderFault::BeyondReach {
             set: other_set,

@@ -3,7 +3,7 @@
 ghost use Rattle.std.specs.Prelude.{◌≡◌};
 ghost use Rattle.rules.specs.Sets.{◌⊆◌};
 ghost use Rattle.deciders.specs.Reaches.{backward as backwards, BackwardReach};
-ghost use borrow.Author.Rules;
+ghost use Rattle.std.proofs.Common.{rules};
 
 use crate::answer::{DeciderFault, Verdict};
 use crate::climb::climb;
@@ -49,7 +49,7 @@ impl Decider for Backward {
 
     ghost signed = { 66 };
 
-    ghost within = { Prim.search Needs.needs };
+    ghost within = { Prim.search rules };
 
     fn query(
         &mut self,

@@ -1,10 +1,10 @@
-use Rattle.std.proofs.Common.{◌≡◌, ℕ, ◌+◌, List, ◌++◌, take, drop, set, sym, ap, ◌∙◌, subst, arith}
+use Rattle.std.proofs.Common.{◌≡◌, ℕ, ◌+◌, List, ◌++◌, take, drop, set, ap, ◌∙◌, arith}
 use Rattle.rules.specs.declared.step.Step.{Step}
 use Rattle.deciders.specs.declared.action.Action.{Action}
 use Rattle.deciders.specs.Searches.{actions_of}
 use Rattle.deciders.proofs.Actions.{action_at, strike_none, strike_some, strike_out_lem}
 use Rattle.deciders.proofs.action.strike_out.Goals as goal
-use Rattle.deciders.proofs.action.strike_out.Goals.{in-Some, in-default}
+use Rattle.deciders.proofs.action.strike_out.Goals.{in-Some, in_default}
 
 pub loop-i-preserved : goal.loop-i-preserved
 loop-i-preserved c =
@@ -21,10 +21,10 @@ loop-i-preserved c =
             ap (λ (n : ℕ). take n c.match-places-i.actions ++ rest) w.count-is ∙ ap (λ (v : List Action). take (n + 1) v ++ rest) e
                 ∙ strike_some g i ts c.loop-i-test.true n c.loop-i.actions c.loop-i.invariant.1 w.in-Some.step w.in-Some.is (omega (arith, c.loop-i.invariant.0)),
           ))
-      | in-default w ↦ (
+      | in_default w ↦ (
         omega (arith, w.count-is, c.loop-i.invariant.0),
         ap (λ (n : ℕ). take n c.match-places-i.actions ++ rest) w.count-is ∙ ap (λ (v : List Action). take n v ++ rest) w.actions-is
-            ∙ strike_none g i ts c.loop-i-test.true n c.loop-i.actions c.loop-i.invariant.1 w.in-default.is,
+            ∙ strike_none g i ts c.loop-i-test.true n c.loop-i.actions c.loop-i.invariant.1 w.in_default.is,
       )
     ]
 

@@ -1,4 +1,4 @@
-use Rattle.std.proofs.Common.{ℕ, List, length, Some, Option, arith}
+use Rattle.std.proofs.Common.{List, length, Some, Option, arith}
 use Rattle.std.proofs.lemmas.List.{length-map}
 use Rattle.rules.specs.declared.step.Step.{Step}
 use Rattle.rules.proofs.Sets.{sub_le}

@@ -9,4 +9,4 @@ pub returns : goal.returns
 returns c =
     let P : List Action → Type 0 = λ ws. Closure (steps_of ws) c.args.standing c.close.result in
     closure_places c.args.gone c.args.places.now c.args.standing c.close.result
-    (subst P c.strike-out-count.ensures.actions c.close.ensures)
+    (subst P c.strike_out-count.ensures.actions c.close.ensures)

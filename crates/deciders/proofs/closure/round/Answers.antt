@@ -1,4 +1,4 @@
-use Rattle.std.proofs.Common.{◌≡◌, ℕ, ◌+◌, ◌<◌, T, List, length, get_or, Some, None, Option, sym, refl, ap, ◌∙◌, subst, arith}
+use Rattle.std.proofs.Common.{◌≡◌, ℕ, ◌+◌, T, List, get_or, Some, None, Option, sym, subst}
 use Rattle.std.proofs.lemmas.List.{get_or-map}
 use Rattle.rules.specs.declared.step.Step.{Step}
 use Rattle.rules.proofs.Sets.{inside→, →inside}
@@ -7,7 +7,7 @@ use Rattle.deciders.specs.Closures.{Round}
 use Rattle.deciders.specs.Searches.{steps_of, no_action}
 use Rattle.deciders.proofs.Closures.{round_start, round_not, round_add}
 use Rattle.deciders.proofs.closure.round.Goals as goal
-use Rattle.deciders.proofs.closure.round.Goals.{then-can-be-done, else-can-be-done}
+use Rattle.deciders.proofs.closure.round.Goals.{then-can_be_done, else-can_be_done}
 
 pub loop-action-init : goal.loop-action-init
 loop-action-init c = round_start (steps_of c.args.actions.now) c.args.facts
@@ -21,9 +21,9 @@ loop-action-preserved c =
     let t : Step = (get_or ws j no_action).step in
     let is : get_or ts j None ≡ Some t = get_or-map (λ (w : Action). Some w.step) ws j no_action None c.loop-action-test.true in
     let P : ℕ → Type 0 = λ v. Round ts (j + 1) c.args.facts v in
-    elim c.if-can-be-done.branch [
-      | then-can-be-done w ↦ subst P (sym w.all-is)
-          (round_add ts j c.args.facts r c.loop-action.invariant t is (inside→ t.needs r (subst T w.if-can-be-done.ensures tt)))
-      | else-can-be-done w ↦ subst P (sym w.all-is)
-          (round_not ts j c.args.facts r c.loop-action.invariant t is (λ h. subst T (sym w.if-can-be-done.ensures) (→inside t.needs r h)))
+    elim c.if-can_be_done.branch [
+      | then-can_be_done w ↦ subst P (sym w.all-is)
+          (round_add ts j c.args.facts r c.loop-action.invariant t is (inside→ t.needs r (subst T w.if-can_be_done.ensures tt)))
+      | else-can_be_done w ↦ subst P (sym w.all-is)
+          (round_not ts j c.args.facts r c.loop-action.invariant t is (λ h. subst T (sym w.if-can_be_done.ensures) (→inside t.needs r h)))
     ]

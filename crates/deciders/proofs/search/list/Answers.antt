@@ -1,18 +1,18 @@
-use Rattle.std.proofs.Common.{◌≡◌, sym, refl, arith}
+use Rattle.std.proofs.Common.{refl, arith}
 use Rattle.deciders.proofs.Sheets.{start_goal, start_turn, turn_more, turn_goal, turn_full}
 use Rattle.deciders.proofs.search.list.Goals as goal
 
-pub returns-then-is-wanted : goal.returns-then-is-wanted
-returns-then-is-wanted g c =
+pub returns-then-is_wanted : goal.returns-then-is_wanted
+returns-then-is_wanted g c =
     start_goal (g.D.Direction.makes c.args.direction.now) (g.D.Direction.wants c.args.direction.now) c.args.actions.now c.args.start
     c.args.sheet.now c.add.new.sheet (record { set = c.args.start; parent = 0; place = 0 }) (omega arith) c.add.ensures.sheet refl
-    (c.if-is-wanted.ensures.holds tt)
+    (c.if-is_wanted.ensures.holds tt)
 
 pub loop-at-init : goal.loop-at-init
 loop-at-init g c =
     start_turn (g.D.Direction.makes c.args.direction.now) (g.D.Direction.wants c.args.direction.now) c.args.actions.now c.args.start
     c.args.sheet.now c.add.new.sheet (record { set = c.args.start; parent = 0; place = 0 }) (omega arith) c.add.ensures.sheet refl
-    c.add.new.self.heads c.add.new.self.links c.add.ensures.index c.if-is-wanted.ensures.fails
+    c.add.new.self.heads c.add.new.self.links c.add.ensures.index c.if-is_wanted.ensures.fails
 
 pub returns-in-Goal : goal.returns-in-Goal
 returns-in-Goal g c =
@@ -28,8 +28,8 @@ returns-in-Full g c =
     c.expand.new.sheet c.expand.new.index.heads c.expand.new.index.links (omega (arith, c.expand.auto.sheet))
     c.in-Full.ensures
 
-pub overflow-add-at : goal.overflow-add-at
-overflow-add-at g c = omega (arith, c.loop-at.invariant.sound.fits)
+pub overflow_add-at : goal.overflow_add-at
+overflow_add-at g c = omega (arith, c.loop-at.invariant.sound.fits)
 
 pub loop-at-preserved : goal.loop-at-preserved
 loop-at-preserved g c =

@@ -10,4 +10,4 @@ returns g c =
     let wants = g.D.Direction.wants c.args.direction.now in
     let P : List Action → Type 0 = λ ws. Lists f wants ws c.args.start c.list.new.sheet c.list.result in
     finds f wants c.args.gone c.args.places.now c.args.start c.list.new.sheet c.list.result
-    (subst P c.strike-out-count.ensures.actions c.list.ensures)
+    (subst P c.strike_out-count.ensures.actions c.list.ensures)

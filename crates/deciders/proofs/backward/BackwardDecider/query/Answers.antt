@@ -1,4 +1,4 @@
-use Rattle.std.proofs.Common.{◌≡◌, ℕ, List, map, length, take, sym, refl, ap, ◌∙◌, subst, arith}
+use Rattle.std.proofs.Common.{◌≡◌, ℕ, map, length, take, refl, ap, subst, arith}
 use Rattle.rules.specs.Sets.{◌⊆◌}
 use Rattle.rules.specs.Planning.{Task, task, gone, place_without, strike, Consistent}
 use Rattle.rules.specs.Listing.{Settles}
@@ -17,7 +17,7 @@ returns-in-Rows c =
     let q : Task = strike p x in
     let sheet = c.search.new.sheet in
     let m = length c.args.sheet.now in
-    let sized : Sized m (length c.args.book.now) = c.if-not-sizes-fit.ensures.holds tt in
+    let sized : Sized m (length c.args.book.now) = c.if-not-sizes_fit.ensures.holds tt in
     let len : length sheet ≡ m = omega (arith, c.search.auto.sheet) in
     let V : ℕ → ℕ → Type 0 = λ a w. w ⊆ a in
     let h = finds_at backward V c.difference.result q.standing (map (place_without (gone p x)) c.places.result.now) q.steps
@@ -42,7 +42,7 @@ returns-in-Goal c =
     let sheet = c.search.new.sheet in
     let m = length c.args.sheet.now in
     let i = c.in-Goal.goal in
-    let sized : Sized m (length c.args.book.now) = c.if-not-sizes-fit.ensures.holds tt in
+    let sized : Sized m (length c.args.book.now) = c.if-not-sizes_fit.ensures.holds tt in
     let len : length sheet ≡ m = omega (arith, c.search.auto.sheet) in
     let V : ℕ → ℕ → Type 0 = λ a w. w ⊆ a in
     let h = finds_at backward V c.difference.result q.standing (map (place_without (gone p x)) c.places.result.now) q.steps

@@ -1,4 +1,4 @@
-use Rattle.std.proofs.Common.{◌≡◌, ℕ, ◌≤◌, List, map, length, take, drop, sym, refl, ap, ◌∙◌, subst, arith}
+use Rattle.std.proofs.Common.{◌≡◌, ◌≤◌, map, length, take, sym, refl, ap, ◌∙◌, subst, arith}
 use Rattle.rules.specs.Sets.{◌⊆◌}
 use Rattle.rules.specs.Planning.{Task, task, gone, place_without, strike, Plan}
 use Rattle.rules.specs.Listing.{forward, Settles}
@@ -15,7 +15,7 @@ returns-in-Rows c =
     let q : Task = strike p x in
     let sheet = c.search.new.sheet in
     let m = length c.args.sheet.now in
-    let sized : Sized m (length c.args.book.now) = c.if-not-sizes-fit.ensures.holds tt in
+    let sized : Sized m (length c.args.book.now) = c.if-not-sizes_fit.ensures.holds tt in
     let len : length sheet ≡ m = omega (arith, c.search.auto.sheet) in
     let h = finds_at forward ◌⊆◌ c.difference.result q.order (map (place_without (gone p x)) c.places.result.now) q.steps
     c.difference-start.result q.standing sheet (Rows c.in-Rows.field-0)
@@ -36,7 +36,7 @@ returns-in-Goal c =
     let i = c.in-Goal.goal in
     let k = c.climb-length.result in
     let book = c.climb-length.new.book in
-    let sized : Sized m (length c.args.book.now) = c.if-not-sizes-fit.ensures.holds tt in
+    let sized : Sized m (length c.args.book.now) = c.if-not-sizes_fit.ensures.holds tt in
     let len : length sheet ≡ m = omega (arith, c.search.auto.sheet) in
     let h = finds_at forward ◌⊆◌ c.difference.result q.order (map (place_without (gone p x)) c.places.result.now) q.steps
     c.difference-start.result q.standing sheet (Goal i)

@@ -1,4 +1,4 @@
-use Rattle.std.proofs.Common.{◌≡◌, ◌-◌, ◌<◌, ◌≤◌, length, get_or, sym, ◌∙◌, arith, rules}
+use Rattle.std.proofs.Common.{arith}
 use Rattle.deciders.specs.Rows.{entries}
 use Rattle.deciders.proofs.Chains.{look, entries_length, found, missing, going_on}
 use Rattle.deciders.proofs.index.Index.has.Goals as goal
