@@ -1,4 +1,4 @@
-use Rattle.std.proofs.Common.{◌≡◌, ℕ, ◌<◌, ◌≤◌, List, [], length, get_or, vec_items, vec_len, sym, refl, ap, ◌∙◌, subst, arith}
+use Rattle.std.proofs.Common.{◌≡◌, ℕ, ◌<◌, List, [], length, get_or, vec_items, vec_len, sym, ap, subst, arith}
 use Rattle.rules.specs.Sets.{◌∪◌}
 use Rattle.rules.specs.Planning.{Task, task, ordering}
 use Rattle.rules.specs.Waivers.{Group}
@@ -8,8 +8,8 @@ use Rattle.waivers.proofs.Keep.{group_order}
 use Rattle.waivers.proofs.Losing.{losing_apart, losing_few, losing_from}
 use Rattle.waivers.proofs.known.KnownGroups.order.Goals as goal
 
-pub invariant-of-self : goal.invariant-of-self
-invariant-of-self c =
+pub invariant_of-self : goal.invariant_of-self
+invariant_of-self c =
     let k = c.args.self.now in
     let p : Task = task k.problem in
     let s : ℕ = c.args.set in
@@ -25,13 +25,11 @@ invariant-of-self c =
     let apart : Apart hs = subst A (sym is) (losing_apart s [] gs (λ i j a b. absurd (omega arith))) in
     let each : (j : ℕ) → j < length hs → Group q (get_or hs j 0) = λ j lt.
     losing_from (Group q) s [] gs (λ a (i, out, e). absurd (omega arith)) (λ i h. group_order p s (get_or gs i 0) (k.each i (omega arith)))
-    (get_or hs j 0) (j, omega arith, ap (λ x. get_or x j 0) (sym is)) in (
-      k.sized,
-      (
-        omega (arith, few, len, k.few),
-        (
-          omega (arith, c.lose.ensures.room, k.room),
-          ((λ i j lt le e. apart i j lt (omega arith) e), ((λ i h. each i (omega arith)), tt)),
-        ),
-      ),
-    )
+    (get_or hs j 0) (j, omega arith, ap (λ x. get_or x j 0) (sym is)) in
+    record {
+      sized = k.sized;
+      few = omega (arith, few, len, k.few);
+      room = omega (arith, c.lose.ensures.room, k.room);
+      apart = λ i j lt le e. apart i j lt (omega arith) e;
+      each = λ i h. each i (omega arith);
+    }

@@ -3,24 +3,16 @@ use Rattle.waivers.specs.Known.{known}
 use Rattle.waivers.proofs.Keep.{group_withdraw, withdrawn_or_not}
 use Rattle.waivers.proofs.known.KnownGroups.withdraw.Goals as goal
 
-pub invariant-of-self : goal.invariant-of-self
-invariant-of-self c =
-    let k = c.args.self.now in (
-      k.sized,
-      (
-        k.few,
-        (
-          k.room,
-          (
-            k.apart,
-            (
-              (λ i h. group_withdraw c.clear.result (task k.problem) c.args.place _ c.clear.new.self.places c.clear.ensures.after (k.each i h)),
-              tt,
-            ),
-          ),
-        ),
-      ),
-    )
+pub invariant_of-self : goal.invariant_of-self
+invariant_of-self c =
+    let k = c.args.self.now in
+    record {
+      sized = k.sized;
+      few = k.few;
+      room = k.room;
+      apart = k.apart;
+      each = λ i h. group_withdraw c.clear.result (task k.problem) c.args.place _ c.clear.new.self.places c.clear.ensures.after (k.each i h);
+    }
 
 pub returns : goal.returns
 returns c = record {
