@@ -1,5 +1,5 @@
 -- What find says once the search has ended and sheet and book are wiped.
-use Rattle.std.proofs.Common.{◌≡◌, ℕ, ◌+◌, ◌-◌, ◌<◌, ◌≤◌, Bool, true, false, cond, ◌||◌, eqb, ltb, List, [], ◌∷◌, ◌++◌, length, take, drop, replicate, Some, None, Ok, Err, Option, Result, sym, refl, ap, ◌∙◌, subst, arith, length-append}
+use Rattle.std.proofs.Common.{◌≡◌, ℕ, ◌-◌, ◌≤◌, Bool, true, false, cond, ◌||◌, eqb, ltb, List, ◌++◌, length, take, replicate, Some, Ok, Err, Result, sym, refl, ap, ◌∙◌, subst, arith, length-append}
 use lib.ListN.{length-replicate}
 use Rattle.std.proofs.lemmas.List.{take_at, length-take-le}
 use Rattle.std.proofs.lemmas.Bool.{ltb-false}
@@ -13,7 +13,7 @@ use Rattle.waivers.specs.declared.fault.FinderFault.TheVariants.{Case, SheetSize
 use Rattle.waivers.specs.Known.{Known}
 use Rattle.waivers.specs.Searching.{Choice, Searches}
 use Rattle.cases.specs.State.{State, known_of}
-use Rattle.cases.specs.Finding.{finding, found, zero_row, Finds}
+use Rattle.cases.specs.Finding.{finding, zero_row, Finds}
 
 okay : Result Unit FinderFault
 okay = Ok tt

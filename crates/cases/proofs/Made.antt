@@ -1,7 +1,5 @@
 -- Each call keeps the law, and runs go on.
-use Rattle.std.proofs.Common.{◌≡◌, ℕ, ◌+◌, ◌-◌, ◌<◌, ◌≤◌, Bool, true, false, cond, ◌&&◌, ◌||◌, T, eqb, ltb, List, [], ◌∷◌, ◌++◌, length, get_or, take, replicate, Some, None, Ok, Err, vec_items, vec_len, Option, Result, Vec, sym, refl, ap, ◌∙◌, subst, arith, eqb→eq, length-append}
-use lib.Bits.{bit_or}
-use lib.Lanes.{Each1}
+use Rattle.std.proofs.Common.{◌≡◌, ℕ, Bool, true, false, cond, ◌&&◌, ◌||◌, T, eqb, ltb, List, [], ◌∷◌, ◌++◌, length, get_or, replicate, Some, None, Ok, Err, vec_items, vec_len, Option, Result, Vec, sym, refl, ap, ◌∙◌, subst, arith, eqb→eq, length-append}
 use Rattle.std.specs.Vec.{with_items}
 use Rattle.std.proofs.lemmas.List.{with_items_is}
 use Rattle.std.proofs.lemmas.Simd.{Each1-from_get_or}
@@ -9,7 +7,7 @@ use Rattle.std.specs.declared.alloc.Global.{Global}
 use Rattle.rules.specs.declared.refusal.Refusal.{Refusal}
 use Rattle.rules.specs.declared.refusal.Refusal.TheVariants.{Unopened, SlipOut, WrongSlip}
 use Rattle.rules.specs.Sets.{◌⊆◌, ◌∪◌, Meets}
-use Rattle.rules.specs.Planning.{Task, Plan, strike, Solvable}
+use Rattle.rules.specs.Planning.{Task, Solvable}
 use Rattle.rules.specs.Waivers.{Good, Group, Hits}
 use Rattle.rules.specs.Refusals.{after}
 use Rattle.rules.proofs.Sets.{bits, bit_of_or}
@@ -19,10 +17,9 @@ use Rattle.deciders.specs.declared.row.Row.{Row}
 use Rattle.deciders.specs.declared.answer.DeciderFault.TheVariants.{BeyondReach}
 use Rattle.waivers.specs.declared.fault.FinderFault.{FinderFault}
 use Rattle.waivers.specs.declared.fault.FinderFault.TheVariants.{Case, SheetSize, BookSize, NoWaiver, Decider, ListFull}
-use Rattle.waivers.specs.Known.{Listed, waived_too}
+use Rattle.waivers.specs.Known.{Listed}
 use Rattle.waivers.specs.Reaching.{Same}
 use Rattle.waivers.specs.Searching.{Choice}
-use Rattle.waivers.proofs.Searches.{stopped_on, solved_on}
 use Rattle.cases.specs.declared.call.Call.{Call}
 use Rattle.cases.specs.declared.call.Call.TheVariants.{Open, Grant, Lapse, Put, Withdraw, Carry, Order, Cancel, Find, Draw, Sign, Tear}
 use Rattle.cases.specs.declared.call.Answer.{Answer}
@@ -31,7 +28,7 @@ use Rattle.cases.specs.State.{State, fresh, known_of, opening, opened, naming, p
 use Rattle.cases.specs.Slips.{drawing, given, drawn, with_slip, is_out, finds, deciding, signed, torn}
 use Rattle.cases.specs.Finding.{finding, found, zero_row, Answered, Finds}
 use Rattle.cases.specs.Plain.{Plain, plain, refused, of_case, turned_down, met, rule, unless, next, replay, set_found}
-use Rattle.cases.specs.Making.{Searched, Makes}
+use Rattle.cases.specs.Making.{Makes}
 use Rattle.cases.specs.Law.{FoundTruly, Left, Looks, Promised, Keeps, Runs, start, then, paired, Law}
 
 -- ---- a find, with the buffers as vectors

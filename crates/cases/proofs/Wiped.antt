@@ -1,5 +1,5 @@
 -- Wiping a list from a place on.
-use Rattle.std.proofs.Common.{◌≡◌, ℕ, zero, suc, ◌+◌, ◌-◌, ◌<◌, ◌≤◌, List, [], ◌∷◌, ◌++◌, length, take, set, replicate, sym, refl, ap, ◌∙◌, subst, append_assoc, arith}
+use Rattle.std.proofs.Common.{◌≡◌, ℕ, ◌+◌, ◌<◌, List, [], ◌∷◌, ◌++◌, length, take, set, replicate, ap, ◌∙◌, append_assoc}
 use Rattle.std.proofs.lemmas.List.{take_more_set, replicate_more}
 
 pub wipe_more : {X : Type 0} (xs ys : List X) (i n : ℕ) (x : X) → i < length ys → take i ys ≡ xs ++ replicate n x

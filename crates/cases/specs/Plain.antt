@@ -1,5 +1,5 @@
 -- The plain case: all that a case holds except the group list, and the rules by which calls change it.
-use Rattle.std.specs.Prelude.{ℕ, Bool, true, false, List, [], ◌∷◌, length, Some, None, Ok, Err, vec_items, Option, Result}
+use Rattle.std.specs.Prelude.{ℕ, Bool, true, List, [], ◌∷◌, length, Some, None, Ok, Err, vec_items, Option, Result}
 use Rattle.rules.specs.declared.refusal.Refusal.{Refusal}
 use Rattle.rules.specs.Planning.{Task}
 use Rattle.waivers.specs.declared.fault.FinderFault.{FinderFault}
@@ -8,7 +8,7 @@ use Rattle.cases.specs.declared.call.Call.{Call}
 use Rattle.cases.specs.declared.call.Call.TheVariants.{Open, Grant, Lapse, Put, Withdraw, Carry, Order, Cancel, Find, Draw, Sign, Tear}
 use Rattle.cases.specs.declared.call.Answer.{Answer}
 use Rattle.cases.specs.declared.call.Answer.TheVariants.{Done, Found, Drawn}
-use Rattle.cases.specs.State.{State, fresh, opening, opened, naming, putting, ordering, withdrawing, carrying, put, grant, lapse, order, cancel, withdraw, carry}
+use Rattle.cases.specs.State.{State, opening, opened, naming, putting, ordering, withdrawing, carrying, put, grant, lapse, order, cancel, withdraw, carry}
 use Rattle.cases.specs.Slips.{drawing, given, with_slip, deciding, signed, torn}
 use Rattle.cases.specs.Finding.{finding}
 

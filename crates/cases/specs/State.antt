@@ -1,5 +1,5 @@
 -- What a case holds, in plain terms; when a call is refused, and what an accepted one does.
-use Rattle.std.specs.Prelude.{ℕ, Bool, true, false, cond, List, [], None, Ok, Err, Option, Result, ◌==◌}
+use Rattle.std.specs.Prelude.{ℕ, Bool, false, cond, List, [], None, Ok, Err, Option, Result, ◌==◌}
 use Rattle.rules.specs.declared.step.Step.{Step}
 use Rattle.rules.specs.declared.refusal.Refusal.{Refusal}
 use Rattle.rules.specs.declared.refusal.Refusal.TheVariants.{Unopened, AlreadyOpen, SlipOut, UnknownFact}

@@ -1,4 +1,4 @@
-use Rattle.std.proofs.Common.{◌≡◌, List, [], length, take, replicate, sym, ap, ◌∙◌, arith, length-set}
+use Rattle.std.proofs.Common.{[], replicate, sym, ap, ◌∙◌, arith, length-set}
 use Rattle.std.proofs.lemmas.List.{take_all}
 use Rattle.cases.specs.Finding.{zero_row}
 use Rattle.cases.proofs.Wiped.{wipe_more}

@@ -1,4 +1,4 @@
-use Rattle.std.proofs.Common.{◌≡◌, ◌++◌, length, take, replicate}
+use Rattle.std.proofs.Common.{◌≡◌, length, take, replicate}
 use Rattle.cases.specs.Finding.{zero_row}
 use Rattle.cases.proofs.find.wipe_sheet.Given as goal
 
