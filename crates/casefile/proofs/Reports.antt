@@ -1,5 +1,5 @@
 -- Every answer has a report line that fits the buffer, and reading goes on.
-use Rattle.std.proofs.Common.{◌≡◌, ℕ, zero, suc, ◌+◌, ◌-◌, ◌*◌, ◌<◌, ◌≤◌, ◌⊎◌, List, [], ◌∷◌, ◌++◌, length, take, drop, Some, None, Ok, Err, Option, Result, unwrap_or, sym, refl, ap, ◌∙◌, subst, inl, inr, arith, length-append, length-drop}
+use Rattle.std.proofs.Common.{◌≡◌, ℕ, ◌+◌, ◌≤◌, List, ◌∷◌, length, drop, Some, None, Ok, Err, Option, Result, unwrap_or, sym, refl, ap, subst, inl, inr, arith, length-append, length-drop}
 use Rattle.std.proofs.lemmas.List.{length-take-le}
 use Rattle.rules.specs.declared.refusal.Refusal.{Refusal}
 use Rattle.deciders.specs.declared.row.Row.{Row}
@@ -9,7 +9,7 @@ use Rattle.frames.specs.declared.frame.Frame.{Frame}
 use Rattle.frames.specs.declared.frame.Frame.TheVariants.{Open, Put, Grant, Lapse, Order, Cancel, Withdraw, Carry, Find, DrawAndSign}
 use Rattle.frames.specs.declared.report.Added.{Added}
 use Rattle.frames.specs.declared.report.Added.TheVariants.{Nothing, Set, SetAndMark}
-use Rattle.frames.specs.Reports.{report_line, added_bytes, Printed}
+use Rattle.frames.specs.Reports.{added_bytes, Printed}
 use Rattle.frames.specs.Texts.{LineAt}
 use Rattle.frames.proofs.Overlays.{length_line}
 use Rattle.cases.specs.State.{State}

@@ -1,15 +1,15 @@
-use Rattle.std.proofs.Common.{◌≡◌, ℕ, ◌+◌, List, length, Some, sym, refl, subst, arith}
+use Rattle.std.proofs.Common.{ℕ, ◌+◌, List, length, Some, sym, refl, subst, arith}
 use Rattle.frames.specs.Reports.{Printed}
-use Rattle.cases.specs.State.{State, view}
+use Rattle.cases.specs.State.{view}
 use Rattle.casefile.specs.Reporting.{reply_bytes, Fits}
 use Rattle.casefile.proofs.Reports.{fits_asked, short_reply, printed_some, goes_on}
 use Rattle.casefile.proofs.reading.Reading.next.Goals as goal
 
-pub invariant-of-self : goal.invariant-of-self
-invariant-of-self g c =
+pub invariant_of-self : goal.invariant_of-self
+invariant_of-self g c =
     let on = goes_on c.args.text.now c.in-Some.line.now c.args.self.now.position c.args.self.now.lines c.in-Some.next
     c.args.self.now.counted (omega arith) c.in-Some.ensures in
-    (on.0, (on.1, tt))
+    record { counted = on.0; inside = on.1 }
 
 pub returns : goal.returns
 returns g c =
@@ -30,7 +30,7 @@ returns g c =
         cut = c.in-Some.ensures;
         counted = refl;
         asks = c.ask-answered.ensures;
-        printed = subst (λ (n : ℕ). Printed (reply_bytes kind line reply b') c.args.buffer.now c.report.new.buffer (Some n)) (sym c.unwrap-or-2.ensures)
+        printed = subst (λ (n : ℕ). Printed (reply_bytes kind line reply b') c.args.buffer.now c.report.new.buffer (Some n)) (sym c.unwrap_or-2.ensures)
             (printed_some (reply_bytes kind line reply b') c.args.buffer.now c.report.new.buffer c.report.result
             (short_reply kind line reply b' fits) (omega arith) (c.report.ensures fits));
       },
