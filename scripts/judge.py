@@ -11,6 +11,7 @@ that is foretold with the groups entered as docs/RULES.md writes it.
 
     scripts/judge.py PROGRAM --seed 1 --files 1000     judge so many random files
     scripts/judge.py PROGRAM --file F                  judge one case file
+    --kinds 01,02,09    the kinds that the program serves (01 to 0A else)
     --all-ends          fail too if the files don't meet every end that a file can meet, each family its own
     --families a,b      only files of these families
     --keep DIR          write the case files and the reports into DIR
@@ -81,15 +82,17 @@ def lines_of(text):
     return lines if lines[-1] else lines[:-1]
 
 
-def unreadable(line):
-    """The kind and the refusal of a line that is no frame, or nothing."""
+def unreadable(line, served=frozenset(FIELDS)):
+    """The kind and the refusal of a line that is no served frame, or nothing."""
     if not line or len(line) % 2 or any(c not in DIGITS for c in line):
         return 0, 1
     frame = bytes.fromhex(line.decode())
     kind = frame[0]
     if kind not in FIELDS:
         return kind, 2
-    return None if len(frame) == 1 + sum(FIELDS[kind]) else (kind, 3)
+    if len(frame) != 1 + sum(FIELDS[kind]):
+        return kind, 3
+    return None if kind in served else (kind, 2)
 
 
 def fields_of(frame):
@@ -243,8 +246,9 @@ def decoded(report_line):
 class Judgement:
     """One case file held against its report: the wrong lines, and how often each end was met."""
 
-    def __init__(self, text, report, status=0):
+    def __init__(self, text, report, status=0, served=frozenset(FIELDS)):
         self.case = Case()
+        self.served = served
         self.wrong = []
         self.ends = Counter()
         self.lines = lines_of(text)
@@ -276,7 +280,7 @@ class Judgement:
 
     def ends_of(self, line_number, line, report):
         """Judges one line, and names the ends that it met."""
-        fault = unreadable(line)
+        fault = unreadable(line, self.served)
         if fault:
             kind, refusal = fault
             judge_exact(report, refused_line(kind, refusal, line_number))
@@ -361,6 +365,10 @@ def lacking_ends(ends_of_families):
     yield from (f"any family: {name}" for name in MET_BY_FILES if not whole[name])
 
 
+def byte_list(text):
+    return {int(kind, 16) for kind in text.split(",")}
+
+
 def family_list(text):
     names = text.split(",")
     if not set(names) <= set(FAMILIES):
@@ -375,6 +383,7 @@ def options_given():
     parser.add_argument("--files", type=int, default=1000)
     parser.add_argument("--file")
     parser.add_argument("--keep", type=Path)
+    parser.add_argument("--kinds", type=byte_list, default=frozenset(FIELDS))
     parser.add_argument("--all-ends", action="store_true")
     parser.add_argument("--families", type=family_list, default=list(FAMILIES))
     return parser.parse_args()
@@ -388,7 +397,7 @@ def main():
         report, status = run(options.program, text)
         if options.keep:
             keep(options.keep, name, text, report)
-        judgement = Judgement(text, report, status)
+        judgement = Judgement(text, report, status, options.kinds)
         print_wrong(name, judgement.wrong[:max(0, MOST_SHOWN - wrong)])
         files += 1
         lines += len(judgement.lines)

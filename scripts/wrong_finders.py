@@ -172,7 +172,7 @@ class PicksTheHighest(Case):
 class NoneTooEarly(Case):
     """says none though a good set exists, since a group loses facts that matter"""
 
-    def widened(self, blocked, rows, noted):
+    def widened(self, blocked, rows):
         return self.waivable(), None
 
 

@@ -19,6 +19,8 @@ SPECIAL = {
     "bit-or": "bit_of_or",
     "frame-of-kind": "some_frame_of_kind",
     "strike-out": "strike_out_lem",
+    "found-parts": "found_parts_lem",
+    "refused-parts": "refused_parts_lem",
 }
 # Names that a function or a field of src/ has too, where nothing mixes them up.
 SHARED = {"half_bytes", "meets_all", "slip_out", "strike_out"}
@@ -26,7 +28,7 @@ TOKEN = re.compile(r"[A-Za-z0-9_'₀-₉](?:[A-Za-z0-9_'₀-₉′]|-(?=[A-Za-z0
 IMPORT = re.compile(r"\buse Rattle\.std\.[\w.]*\.\{([^}]*)\}", re.S)
 DECLARED = re.compile(
     r"(?m)^[ \t]*(?:(?:abbrev|unfoldable|pub|record|data|ruleset)[ \t]+)*"
-    r"([A-Za-z][^\s:()\[\]{},;=.]*)(?=[ \t][^\n=]*?:[ \t]|[ \t]*:[ \t]|[ \t]*=[ \t]*\()")
+    r"([A-Za-z][^\s:()\[\]{},;=.]*)(?=[ \t][^\n=]*?:[ \t]|[ \t]*:[ \t]|[ \t]*=[ \t]*\(|[ \t]*\n[ \t]+: )")
 MADE = re.compile(
     r"(returns|invariant|decreases|loop|overflow|bounds|slice|offset|nonzero|prove|if|then|else|in|not|field)"
     r"(_of|_add|_sub|_mul|_shl|_shr|_bounds|_div|_rem)?-|.*-(requires|init|preserved|smaller)(-|$)|.*-invariant(-|$)")

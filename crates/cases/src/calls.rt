@@ -17,7 +17,7 @@ impl Case {
         self.check_usable()?;
         self.check_names(step.needs | step.gives | step.takes)?;
         self.known.put(place, step)?;
-        self.finding = None;
+        self.finding = None; // it was found without this step
         Ok(())
     }
 
@@ -28,7 +28,7 @@ impl Case {
     {
         self.check_set(set)?;
         self.known.grant(set);
-        self.finding = None;
+        self.finding = None; // it was found with less standing
         Ok(())
     }
 
@@ -39,7 +39,7 @@ impl Case {
     {
         self.check_set(set)?;
         self.known.lapse(set);
-        self.finding = None;
+        self.finding = None; // it was found with more standing
         Ok(())
     }
 
@@ -50,7 +50,7 @@ impl Case {
     {
         self.check_set(set)?;
         self.known.order(set)?;
-        self.finding = None;
+        self.finding = None; // it was found for a smaller order
         Ok(())
     }
 
@@ -61,7 +61,7 @@ impl Case {
     {
         self.check_set(set)?;
         self.known.cancel(set);
-        self.finding = None;
+        self.finding = None; // it was found for a larger order
         Ok(())
     }
 
@@ -72,7 +72,7 @@ impl Case {
     {
         self.check_usable()?;
         self.known.withdraw(place)?;
-        self.finding = None;
+        self.finding = None; // it was found with this step
         Ok(())
     }
 
@@ -83,7 +83,7 @@ impl Case {
     {
         self.check_usable()?;
         self.known.carry(place)?;
-        self.finding = None;
+        self.finding = None; // it was found before the step was done
         Ok(())
     }
 }

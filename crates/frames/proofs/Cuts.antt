@@ -22,10 +22,10 @@ module _ (s : List ℕ) (p e : ℕ) (low : p ≤ e) (high : e ≤ length s) wher
       (drop-drop (e - p) p s ∙ ap (λ (i : ℕ). drop i s) there)
 
 -- the line before a line feed
-pub line-before-feed
+pub line_before_feed
     : (s : List ℕ) (p e : ℕ) → p ≤ e → e < length s → ((k : ℕ) → p ≤ k → k < e → get_or s k 0 ≢ 10) → get_or s e 0 ≡ 10
     → LineAt s p (take (e - p) (drop p s)) (e + 1)
-line-before-feed s p e low high before feed =
+line_before_feed s p e low high before feed =
     let line : List ℕ = take (e - p) (drop p s) in
     let within : e ≤ length s = omega arith in
     let long = length_cut s p e low within in (
@@ -39,10 +39,10 @@ line-before-feed s p e low high before feed =
     )
 
 -- the line that ends with the text
-pub line-to-end
+pub line_to_end
     : (s : List ℕ) (p e : ℕ) → p < length s → e ≡ length s → ((k : ℕ) → p ≤ k → k < e → get_or s k 0 ≢ 10)
     → LineAt s p (take (e - p) (drop p s)) e
-line-to-end s p e inside end before = (
+line_to_end s p e inside end before = (
   inside,
   unbroken_cut s p e (omega arith) (omega arith) before,
   inr (sym (take_rest s p) ∙ ap (λ (n : ℕ). take (n - p) (drop p s)) (sym end), end),
@@ -68,14 +68,14 @@ no_front xs ys r q e =
     q (length xs) (omega (arith, longer, length-append xs (10 ∷ r)))
     (ap (λ (zs : List ℕ). get_or zs (length xs) 0) (sym e) ∙ get_or_at xs 10 r 0 (length xs) refl)
 
-pub one-cut
+pub one_cut
     : (text : List ℕ) (position : ℕ) (line other : List ℕ) (next after : ℕ)
     → LineAt text position line next → LineAt text position other after → (line ≡ other) × (next ≡ after)
-one-cut text position line other next after (within, p, inl (e, m)) (within2, q, inl (f, n)) =
+one_cut text position line other next after (within, p, inl (e, m)) (within2, q, inl (f, n)) =
     let same = one_front line other (drop next text) (drop after text) p q (sym e ∙ f) in
     (same, omega (arith, ap length same))
-one-cut text position line other next after (within, p, inl (e, m)) (within2, q, inr (f, n)) =
+one_cut text position line other next after (within, p, inl (e, m)) (within2, q, inr (f, n)) =
     absurd (no_front line other (drop next text) q (sym e ∙ f))
-one-cut text position line other next after (within, p, inr (e, m)) (within2, q, inl (f, n)) =
+one_cut text position line other next after (within, p, inr (e, m)) (within2, q, inl (f, n)) =
     absurd (no_front other line (drop after text) p (sym f ∙ e))
-one-cut text position line other next after (within, p, inr (e, m)) (within2, q, inr (f, n)) = (sym e ∙ f, m ∙ sym n)
+one_cut text position line other next after (within, p, inr (e, m)) (within2, q, inr (f, n)) = (sym e ∙ f, m ∙ sym n)

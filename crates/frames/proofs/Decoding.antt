@@ -15,10 +15,10 @@ abbrev pub Held : List ℕ → List ℕ → ℕ → Type 0
 Held line buffer k =
     (b : ℕ) × Pair (get_or line (2 * k) 0) (get_or line (2 * k + 1) 0) b × (k < length buffer → get_or buffer k 0 ≡ b)
 
-pub held-written
+pub held_written
     : (line buffer : List ℕ) (i b : ℕ) → i < length buffer → Pair (get_or line (2 * i) 0) (get_or line (2 * i + 1) 0) b
     → ((k : ℕ) → k < i → Held line buffer k) → (k : ℕ) → k < i + 1 → Held line (set buffer i b) k
-held-written line buffer i b inside here below =
+held_written line buffer i b inside here below =
     below_more (Held line (set buffer i b)) i
     (λ k h.
     let was = below k h in
@@ -26,10 +26,10 @@ held-written line buffer i b inside here below =
     (was.0, was.1, λ l. get_or-set_other buffer i k b 0 apart ∙ was.2 (omega (arith, length-set buffer i b))))
     (b, here, λ l. get_or-set_same buffer i b 0 inside)
 
-pub held-passed
+pub held_passed
     : (line buffer : List ℕ) (i b : ℕ) → length buffer ≤ i → Pair (get_or line (2 * i) 0) (get_or line (2 * i + 1) 0) b
     → ((k : ℕ) → k < i → Held line buffer k) → (k : ℕ) → k < i + 1 → Held line buffer k
-held-passed line buffer i b outside here below =
+held_passed line buffer i b outside here below =
     below_more (Held line buffer) i below (b, here, λ l. absurd (omega arith))
 
 -- what holds of some number for each index, holds of the elements of a list
@@ -52,10 +52,10 @@ gathered P (suc n) each =
     )
 
 -- where every pair is a byte's, the line spells the bytes, and the buffer has what fits of them
-pub decoded-all
+pub decoded_all
     : (line buffer : List ℕ) (n : ℕ) → length line ≡ 2 * n → ((k : ℕ) → k < n → Held line buffer k)
     → Decoded line buffer (min n (length buffer))
-decoded-all line buffer n even held =
+decoded_all line buffer n even held =
     let P : ℕ → ℕ → Type 0 = λ k b. Pair (get_or line (2 * k) 0) (get_or line (2 * k + 1) 0) b × (k < length buffer → get_or buffer k 0 ≡ b) in
     let all = gathered P n (λ k h. let w = held k h in (w.0, (w.1, w.2))) in
     let bytes : List ℕ = all.0 in
@@ -95,10 +95,10 @@ means_all bytes (Err (WrongLength kind)) (front, some, other) = (
 )
 
 -- what the bytes say that a line spells, the line says
-pub reads-from
+pub reads_from
     : (line bytes : List ℕ) → Spells line bytes → (r : Result Frame FrameFault) → Means (take 15 bytes) r → Reads line r
-reads-from line bytes spelled (Ok f) e = subst (λ (bs : List ℕ). Spells line bs) (sym (means_all bytes (Ok f) e)) spelled
-reads-from line bytes spelled (Err Malformed) e =
+reads_from line bytes spelled (Ok f) e = subst (λ (bs : List ℕ). Spells line bs) (sym (means_all bytes (Ok f) e)) spelled
+reads_from line bytes spelled (Err Malformed) e =
     λ others other. spells_unique line others bytes other spelled ∙ means_all bytes (Err Malformed) e
-reads-from line bytes spelled (Err (UnknownKind kind)) e = (bytes, spelled, means_all bytes (Err (UnknownKind kind)) e)
-reads-from line bytes spelled (Err (WrongLength kind)) e = (bytes, spelled, means_all bytes (Err (WrongLength kind)) e)
+reads_from line bytes spelled (Err (UnknownKind kind)) e = (bytes, spelled, means_all bytes (Err (UnknownKind kind)) e)
+reads_from line bytes spelled (Err (WrongLength kind)) e = (bytes, spelled, means_all bytes (Err (WrongLength kind)) e)

@@ -33,9 +33,9 @@ module _ (xs : List ℕ) (p : ℕ) (ys : List ℕ) where
       (sym (append_assoc ys (v ∷ []) (drop (q + 1) xs)) ∙ ap (λ (i : ℕ). (ys ++ v ∷ []) ++ drop i xs) onward)
 
   -- more characters
-  overlay-overlay
+  overlay_overlay
       : (zs : List ℕ) → p + length ys ≤ length xs → overlaid (overlaid xs p ys) (p + length ys) zs ≡ overlaid xs p (ys ++ zs)
-  overlay-overlay zs h =
+  overlay_overlay zs h =
       let q : ℕ = p + length ys in
       let front : List ℕ = take p xs ++ ys in
       let whole : List ℕ = overlaid xs p ys in
@@ -84,11 +84,11 @@ pub length_line : (bytes : List ℕ) → length (report_line bytes) ≡ 2 * leng
 length_line bytes = omega (arith, length-append (written bytes) (10 ∷ []), length_written bytes)
 
 -- the digits of two parts and a line feed are a report line
-pub line-printed
+pub line_printed
     : (head tail buffer : List ℕ) (middle end : ℕ) → 2 * (length head + length tail) + 1 ≤ length buffer
     → middle ≡ 0 + 2 * length head → end ≡ middle + 2 * length tail
     → Printed (head ++ tail) buffer (set (overlaid (overlaid buffer 0 (written head)) middle (written tail)) end 10) (Some (end + 1))
-line-printed head tail buffer middle end room m e =
+line_printed head tail buffer middle end room m e =
     let both : List ℕ = written (head ++ tail) in
     let longer = length-append head tail in
     let size : end + 1 ≡ length (report_line (head ++ tail)) = omega (arith, length_line (head ++ tail)) in
@@ -99,7 +99,7 @@ line-printed head tail buffer middle end room m e =
       omega arith,
       ap (λ (i : ℕ). set (overlaid (overlaid buffer 0 (written head)) i (written tail)) end 10) from
           ∙ ap (λ (b : List ℕ). set b end 10)
-          (overlay-overlay buffer 0 (written head) (written tail) (omega (arith, length_written head))
+          (overlay_overlay buffer 0 (written head) (written tail) (omega (arith, length_written head))
           ∙ ap (overlaid buffer 0) (sym (written_append head tail)))
           ∙ ap (λ (i : ℕ). set (overlaid buffer 0 both) i 10) to
           ∙ overlay_more buffer 0 both 10 (omega arith)

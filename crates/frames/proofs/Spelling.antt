@@ -51,9 +51,9 @@ written_at (b ∷ bs) (suc i) h =
     (ap (λ k. get_or (written (b ∷ bs)) k 0) even ∙ rec.0, ap (λ k. get_or (written (b ∷ bs)) k 0) odd ∙ rec.1)
 
 -- the written digits of a list of bytes spell it
-pub spells-written
+pub spells_written
     : (bytes : List ℕ) → Bytes bytes → Spells (written bytes) bytes
-spells-written bytes small = (
+spells_written bytes small = (
   length_written bytes,
   λ i h.
       let at = written_at bytes i h in

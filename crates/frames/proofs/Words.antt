@@ -7,9 +7,9 @@ use Rattle.frames.specs.Numbers.{word_bytes, half_bytes, number_of}
 abbrev pub word_of : ℕ → ℕ → ℕ → ℕ → ℕ
 word_of a b c d = a * 16777216 + b * 65536 + c * 256 + d
 
-pub bytes-of-word
+pub bytes_of_word
     : (a b c d : ℕ) → a < 256 → b < 256 → c < 256 → d < 256 → word_bytes (word_of a b c d) ≡ a ∷ b ∷ c ∷ d ∷ []
-bytes-of-word a b c d ha hb hc hd =
+bytes_of_word a b c d ha hb hc hd =
     let n : ℕ = word_of a b c d in
     let ea : n / 16777216 ≡ a = omega arith in
     let eb : n / 65536 % 256 ≡ b = omega arith in
@@ -21,15 +21,15 @@ pub word_of_bytes : (n : ℕ) → word_of (n / 16777216) (n / 65536 % 256) (n / 
 word_of_bytes n = omega arith
 
 -- a list that begins with the bytes of a number
-pub word-front
+pub word_front
     : (s : List ℕ) (n : ℕ) → 4 ≤ length s → ((i : ℕ) → get_or s i 0 < 256)
     → n ≡ word_of (get_or s 0 0) (get_or s 1 0) (get_or s 2 0) (get_or s 3 0) → word_bytes n ++ drop 4 s ≡ s
-word-front [] n long small e = absurd (omega arith)
-word-front (a ∷ []) n long small e = absurd (omega arith)
-word-front (a ∷ b ∷ []) n long small e = absurd (omega arith)
-word-front (a ∷ b ∷ c ∷ []) n long small e = absurd (omega arith)
-word-front (a ∷ b ∷ c ∷ d ∷ s) n long small e =
-    ap (λ (m : ℕ). word_bytes m ++ s) e ∙ ap (λ (front : List ℕ). front ++ s) (bytes-of-word a b c d (small 0) (small 1) (small 2) (small 3))
+word_front [] n long small e = absurd (omega arith)
+word_front (a ∷ []) n long small e = absurd (omega arith)
+word_front (a ∷ b ∷ []) n long small e = absurd (omega arith)
+word_front (a ∷ b ∷ c ∷ []) n long small e = absurd (omega arith)
+word_front (a ∷ b ∷ c ∷ d ∷ s) n long small e =
+    ap (λ (m : ℕ). word_bytes m ++ s) e ∙ ap (λ (front : List ℕ). front ++ s) (bytes_of_word a b c d (small 0) (small 1) (small 2) (small 3))
 
 -- a list of one element
 pub single : (s : List ℕ) → length s ≡ 1 → get_or s 0 0 ∷ [] ≡ s

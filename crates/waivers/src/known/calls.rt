@@ -14,7 +14,7 @@ impl KnownGroups {
     pub fn grant(&mut self, set: Facts)
         ensures { known self.new ≡ granted set (known self.old) }
     {
-        self.groups.clear();
+        self.groups.clear(); // what stands now may make a group solvable
         self.problem.standing.facts |= set;
     }
 
@@ -42,7 +42,7 @@ impl KnownGroups {
     pub fn cancel(&mut self, set: Facts)
         ensures { known self.new ≡ cancelled set (known self.old) }
     {
-        self.groups.clear();
+        self.groups.clear(); // a smaller order may make a group solvable
         self.problem.order = difference(self.problem.order, set);
     }
 
@@ -50,7 +50,7 @@ impl KnownGroups {
     pub fn waive(&mut self, set: Facts)
         ensures { known self.new ≡ waived_too set (known self.old) }
     {
-        self.groups.clear();
+        self.groups.clear(); // waived facts are waivable no more, and what was good asks for nothing now
         self.problem.waived |= set;
     }
 

@@ -69,7 +69,7 @@ impl KnownGroups {
     {
         let put = self.problem.table.put(place, step);
         if put.is_ok() {
-            self.groups.clear();
+            self.groups.clear(); // the new step may make a group solvable
         }
         put
     }

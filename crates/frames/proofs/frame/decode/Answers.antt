@@ -1,6 +1,6 @@
 use Rattle.std.proofs.Common.{ℕ, ◌+◌, ◌/◌, ◌<◌, List, length, get_or, sym, subst, arith, rules}
 use Rattle.frames.specs.Frames.{Decoded}
-use Rattle.frames.proofs.Decoding.{Held, held-written, held-passed, decoded-all}
+use Rattle.frames.proofs.Decoding.{Held, held_written, held_passed, decoded_all}
 use Rattle.frames.proofs.frame.decode.Goals as goal
 use Rattle.frames.proofs.frame.decode.Goals.{then-i-buffer, else-i-buffer}
 
@@ -14,10 +14,10 @@ loop-i-preserved c =
     elim c.if-i-buffer.branch [
       | then-i-buffer w ↦
           subst P (sym w.buffer-is)
-          (held-written line c.loop-i.buffer c.loop-i.i c.in-Some.byte w.if-i-buffer.true c.in-Some.ensures c.loop-i.invariant)
+          (held_written line c.loop-i.buffer c.loop-i.i c.in-Some.byte w.if-i-buffer.true c.in-Some.ensures c.loop-i.invariant)
       | else-i-buffer w ↦
           subst P (sym w.buffer-is)
-          (held-passed line c.loop-i.buffer c.loop-i.i c.in-Some.byte w.if-i-buffer.false c.in-Some.ensures c.loop-i.invariant)
+          (held_passed line c.loop-i.buffer c.loop-i.i c.in-Some.byte w.if-i-buffer.false c.in-Some.ensures c.loop-i.invariant)
     ]
 
 pub returns : goal.returns
@@ -25,4 +25,4 @@ returns c =
     let line = c.args.line.now in
     let half : ℕ = length line / 2 in
     subst (λ (n : ℕ). Decoded line c.loop-i.buffer n) (sym c.min.ensures)
-    (decoded-all line c.loop-i.buffer half (search rules) (λ k h. c.loop-i.invariant k (omega arith)))
+    (decoded_all line c.loop-i.buffer half (search rules) (λ k h. c.loop-i.invariant k (omega arith)))

@@ -1,7 +1,7 @@
 use Rattle.std.proofs.Common.{◌≡◌, length, arith, rules}
 use Rattle.frames.specs.Numbers.{half_bytes}
 use Rattle.frames.specs.Reports.{found_bytes}
-use Rattle.frames.proofs.Contents.{printed-as, found_parts, found-parts}
+use Rattle.frames.proofs.Contents.{printed_as, found_parts, found_parts_lem}
 use Rattle.frames.proofs.report.write_found.Goals as goal
 
 pub returns : goal.returns
@@ -14,9 +14,9 @@ returns c =
     let counts : half ≡ half_bytes (length places) = cc in
     record {
       printed = λ few.
-          printed-as (found_parts word c.args.size half places) (found_bytes c.args.facts c.args.size places)
+          printed_as (found_parts word c.args.size half places) (found_bytes c.args.facts c.args.size places)
           c.args.buffer.now c.write_line.new.buffer c.write_line.result
-          (found-parts c.args.facts word c.args.size half places c.word_bytes.ensures counts)
+          (found_parts_lem c.args.facts word c.args.size half places c.word_bytes.ensures counts)
           c.write_line.ensures;
       uncounted = λ many. absurd (omega (arith, c.in-Ok.ensures.0));
     }

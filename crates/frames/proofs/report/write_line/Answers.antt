@@ -1,7 +1,7 @@
 use Rattle.std.proofs.Common.{◌≡◌, ℕ, ◌+◌, ◌<◌, List, ◌++◌, length, set, Some, sym, refl, ap, ◌∙◌, subst, arith, rules}
 use Rattle.frames.specs.Digits.{written}
 use Rattle.frames.specs.Reports.{overlaid, Printed}
-use Rattle.frames.proofs.Overlays.{length_line_of, line-printed}
+use Rattle.frames.proofs.Overlays.{length_line_of, line_printed}
 use Rattle.frames.proofs.report.write_line.Goals as goal
 use Rattle.frames.proofs.report.write_line.Goals.{then-head-room-via-then-head-room, then-head-room-via-else-head-room+then-tail-room}
 
@@ -27,7 +27,7 @@ returns c =
     let middle = c.put_digits-middle.result in
     let end = c.put_digits-end.result in
     let some : 0 < length buffer = search rules in
-    let printed = line-printed head tail buffer middle end (omega (arith, some)) c.put_digits-middle.ensures.end c.put_digits-end.ensures.end in
+    let printed = line_printed head tail buffer middle end (omega (arith, some)) c.put_digits-middle.ensures.end c.put_digits-end.ensures.end in
     let whole : c.put_digits-end.new.buffer ≡ overlaid (overlaid buffer 0 (written head)) middle (written tail) =
     c.put_digits-end.ensures.after ∙ ap (λ (b : List ℕ). overlaid b middle (written tail)) c.put_digits-middle.ensures.after in
     subst (λ (b : List ℕ). Printed (head ++ tail) buffer (set b end 10) (Some (end + 1))) (sym whole) printed
