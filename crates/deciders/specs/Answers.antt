@@ -1,5 +1,6 @@
 -- What a decider answers, and what a fault of a decider says in a report.
-use Rattle.std.specs.Prelude.{◌≡◌, ℕ, ◌<◌, ◌≤◌, List, take, drop, Ok, Err, Result}
+use Rattle.std.specs.Prelude.{◌≡◌, ℕ, ◌<◌, ◌≤◌, Bool, List, take, drop, Ok, Err, Result, ◌==◌}
+use Rattle.std.specs.Ordering.{on, eq_of_both}
 use Rattle.rules.specs.Planning.{Task, Plan, strike, Blocked}
 use Rattle.deciders.specs.declared.answer.Verdict.{Verdict}
 use Rattle.deciders.specs.declared.answer.Verdict.TheVariants as verdict
@@ -10,17 +11,13 @@ use Rattle.deciders.specs.declared.answer.DeciderFault.TheVariants.{BeyondReach}
 abbrev pub Sized : ℕ → ℕ → Type 0
 Sized m b = (0 < m) × (m ≤ 4096) × (m ≤ b) × (b ≤ 4096)
 
--- the queried set that a fault names
-abbrev pub set_of : DeciderFault → ℕ
-set_of (BeyondReach s k) = s
-
--- the mark that a fault names
-abbrev pub mark_of : DeciderFault → ℕ
-mark_of (BeyondReach s k) = k
-
 -- a fault's number, its layer, and its values: the queried set and the decider's mark
 abbrev pub reported : DeciderFault → ℕ × ℕ × ℕ × ℕ
 reported (BeyondReach s k) = (21, 4, s, k)
+
+-- the test whether two faults report the same set and the same mark
+abbrev pub same_fault : DeciderFault → DeciderFault → Bool
+same_fault = eq_of_both (on (λ e. (reported e).2) ◌==◌) (on (λ e. (reported e).3) ◌==◌)
 
 -- The answer to a query for the task p without x, with m rows, and what the plan book holds before and after.
 -- R says whether the query is in reach. Inside it, the answer is solvable with a plan, or blocked, and there is no plan; outside it, a fault.

@@ -1,10 +1,9 @@
 //! What a decider answers.
 
-ghost use Rattle.std.specs.Prelude.{◌≡◌, ◌==◌, Decides};
+ghost use Rattle.std.specs.Prelude.{◌≡◌, Decides};
 ghost use Rattle.std.proofs.Common.{rules};
 ghost use Rattle.std.specs.Cmp.Rules.{comparing};
-ghost use Rattle.std.specs.Ordering.{on, eq_of_both};
-ghost use Rattle.deciders.specs.Answers.{mark_of, reported, set_of};
+ghost use Rattle.deciders.specs.Answers.{reported, same_fault};
 
 use rules::Facts;
 
@@ -25,12 +24,12 @@ pub enum DeciderFault {
 }
 
 impl PartialEq for DeciderFault {
-    ghost eq = { eq_of_both (on set_of ◌==◌) (on mark_of ◌==◌) };
+    ghost eq = { same_fault };
 
     ghost laws = { Prim.search (comparing, rules) };
 
     fn eq(&self, other: &DeciderFault) -> bool
-        ensures test { result ≡ eq_of_both (on set_of ◌==◌) (on mark_of ◌==◌) self.now other.now }
+        ensures test { result ≡ same_fault self.now other.now }
         ensures same { Decides result (self.now ≡ other.now) }
     {
         let DeciderFault::BeyondReach { set, mark } = *self;
