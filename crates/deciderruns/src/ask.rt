@@ -120,7 +120,7 @@ fn tell_fault(
 ) -> io::Result<()> {
     let places = book.len();
     let number = fault.number();
-    let layer = fault.layer();
+    let layer = u8::from(fault.layer());
     let kept = untouched(book, 0);
     let DeciderFault::BeyondReach { set, mark } = fault;
     println!(rt;

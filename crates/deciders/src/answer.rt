@@ -3,9 +3,11 @@
 ghost use Rattle.std.specs.Prelude.{◌≡◌, Decides};
 ghost use Rattle.std.proofs.Common.{rules};
 ghost use Rattle.std.specs.Cmp.Rules.{comparing};
+ghost use Rattle.rules.specs.declared.layer.Layer.TheVariants.{Decider as OfDecider};
+ghost use Rattle.rules.specs.Refusals.{layer_byte};
 ghost use Rattle.deciders.specs.Answers.{reported, same_fault};
 
-use rules::Facts;
+use rules::{Facts, Layer};
 
 /// The answer to a query inside the decider's reach.
 #[derive(Clone, Copy, PartialEq, Eq, Debug)]
@@ -56,11 +58,12 @@ impl DeciderFault {
     }
 
     /// The layer that the fault comes from.
-    pub fn layer(self) -> u8
-        ensures { result ≡ (reported self).1 }
+    pub fn layer(self) -> Layer
+        ensures is { result ≡ OfDecider }
+        ensures byte { layer_byte result ≡ (reported self).1 }
     {
         match self {
-            DeciderFault::BeyondReach { .. } => 4,
+            DeciderFault::BeyondReach { .. } => Layer::Decider,
         }
     }
 }

@@ -3,7 +3,7 @@
 use rules::Facts;
 
 /// A row of a working sheet: a set, the number of the row that it came from, and the place of the step that made it.
-#[derive(Clone, Copy, PartialEq, Eq, Debug)]
+#[derive(Clone, Copy, PartialEq, Eq, Default, Debug)]
 pub struct Row {
     pub set: Facts,
     pub parent: u16,

@@ -16,13 +16,13 @@ undone o g s u v b is e test off =
     inr (v, ap (place_without g) is ∙ ap Some (sym e), λ h. subst T (sym test ∙ off) (→inside v.needs s h))
 
 pub done_at : (o : Option Step) (g s : ℕ) (u v : Step) (b : Bool) (r : ℕ) → o ≡ Some u → v ≡ step_without g u → b ≡ inside v.needs s → b ≡ true
-    → r ≡ done v s → Does (place_without g o) s true r
+    → r ≡ done v s → Does (place_without g o) s r
 done_at o g s u v b r is e test on q =
     (v, ap (place_without g) is ∙ ap Some (sym e), inside→ v.needs s (subst T (sym (sym test ∙ on)) tt), q)
 
 -- ---- a walk goes one step further
 
-pub walk_more : (ts : List (Option Step)) (s : ℕ) (l : List ℕ) (i e e' : ℕ) → i < length l → Walk ts s (take i l) e → Does (get_or ts (get_or l i 0) None) e true e'
+pub walk_more : (ts : List (Option Step)) (s : ℕ) (l : List ℕ) (i e e' : ℕ) → i < length l → Walk ts s (take i l) e → Does (get_or ts (get_or l i 0) None) e e'
     → Walk ts s (take (i + 1) l) e'
 walk_more ts s [] i e e' h on does = absurd (omega arith)
 walk_more ts s (a ∷ l) zero e e' h on (t, is, can, q) = (t, is, subst (λ x. t.needs ⊆ x) (sym on) can, ap (done t) on ∙ sym q)
@@ -118,14 +118,14 @@ module _ (p : Task) (x start : ℕ) (l : List ℕ) (i e : ℕ) (begins : start �
   from_start = subst (λ s. Walk (strike p x).steps s (take i l) e) begins on
 
   -- the walk stops at the place i
-  pub stops_at : (e' : ℕ) → i < length l → Does (place_without (gone p x) (held p (get_or l i 0))) e false e' → Checks (strike p x) l (StopsAt i)
-  stops_at e' h (stop, same) = (h, (e, from_start, subst (λ o. Undoable o e) (sym (held_struck p x (get_or l i 0))) stop))
+  pub stops_at : i < length l → Undoable (place_without (gone p x) (held p (get_or l i 0))) e → Checks (strike p x) l (StopsAt i)
+  stops_at h stop = (h, (e, from_start, subst (λ o. Undoable o e) (sym (held_struck p x (get_or l i 0))) stop))
 
   -- the walk goes on past the place i
-  pub goes_on : (e' : ℕ) → i < length l → Does (place_without (gone p x) (held p (get_or l i 0))) e true e'
+  pub goes_on : (e' : ℕ) → i < length l → Does (place_without (gone p x) (held p (get_or l i 0))) e e'
       → Walk (strike p x).steps start (take (i + 1) l) e'
   goes_on e' h does =
-      walk_more (strike p x).steps start l i e e' h on (subst (λ o. Does o e true e') (sym (held_struck p x (get_or l i 0))) does)
+      walk_more (strike p x).steps start l i e e' h on (subst (λ o. Does o e e') (sym (held_struck p x (get_or l i 0))) does)
 
   all_walked : length l ≤ i → Walk (strike p x).steps (strike p x).standing l e
   all_walked h = subst (λ m. Walk (strike p x).steps (strike p x).standing m e) (take_all i l h) from_start

@@ -1,5 +1,5 @@
 -- The plan check: which places are a plan, and what is wrong with those that are not.
-use Rattle.std.specs.Prelude.{◌≡◌, ℕ, ◌<◌, Bool, true, false, ◌⊎◌, List, length, take, Some, None, Option, slice_index}
+use Rattle.std.specs.Prelude.{◌≡◌, ℕ, ◌<◌, ◌⊎◌, List, length, take, Some, None, Option, slice_index}
 use Rattle.rules.specs.declared.step.Step.{Step}
 use Rattle.rules.specs.declared.check.PlanCheck.{PlanCheck}
 use Rattle.rules.specs.declared.check.PlanCheck.TheVariants.{IsPlan, StopsAt, Missing}
@@ -20,7 +20,6 @@ Checks p l (Missing m) = (0 < m) × ((s : ℕ) × Walk p.steps p.standing l s ×
 abbrev pub ChecksOnce : Type 0
 ChecksOnce = (p : Task) (l : List ℕ) (c d : PlanCheck) → Checks p l c → Checks p l d → c ≡ d
 
--- doing what a place holds in the standing s leaves s', or it can't be done, and the standing stays
-abbrev pub Does : Option Step → ℕ → Bool → ℕ → Type 0
-Does o s true s' = (t : Step) × (o ≡ Some t) × (t.needs ⊆ s) × (s' ≡ done t s)
-Does o s false s' = Undoable o s × (s' ≡ s)
+-- what a place holds can be done in the standing s, and leaves the standing s'
+abbrev pub Does : Option Step → ℕ → ℕ → Type 0
+Does o s s' = (t : Step) × (o ≡ Some t) × (t.needs ⊆ s) × (s' ≡ done t s)

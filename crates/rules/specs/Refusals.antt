@@ -1,5 +1,7 @@
--- The refusals of a case by their numbers, and what a refused call leaves.
+-- The refusals of a case by their numbers, the layers by theirs, and what a refused call leaves.
 use Rattle.std.specs.Prelude.{ℕ, Ok, Err, Result}
+use Rattle.rules.specs.declared.layer.Layer.{Layer}
+use Rattle.rules.specs.declared.layer.Layer.TheVariants.{Reader, Case, Finder, Decider}
 use Rattle.rules.specs.declared.refusal.Refusal.{Refusal}
 use Rattle.rules.specs.declared.refusal.Refusal.TheVariants.{Unopened, AlreadyOpen, SlipOut, FactCount, UnknownFact, GivesAndTakes, NoSuchPlace, PlaceTaken, PlaceEmpty, NeedMissing, WaivedFact, NoFinding, WrongSlip}
 
@@ -18,6 +20,13 @@ number NeedMissing = 12
 number WaivedFact = 13
 number NoFinding = 14
 number WrongSlip = 15
+
+-- the byte that a report line shows for a layer
+abbrev pub layer_byte : Layer → ℕ
+layer_byte Reader = 1
+layer_byte Case = 2
+layer_byte Finder = 3
+layer_byte Decider = 4
 
 -- what a call leaves: a refused one leaves all as it was
 abbrev pub after : {X E : Type 0} → Result Unit E → (X → X) → X → X

@@ -1,8 +1,8 @@
 //! The plan check: a list of places, walked on the problem's own standing.
 
-ghost use Rattle.std.specs.Prelude.{◌≡◌, ℕ, ◌+◌, Bool, None, slice_index_or};
+ghost use Rattle.std.specs.Prelude.{◌≡◌, ℕ, ◌+◌, None, MatchOption, slice_index_or};
 ghost use Rattle.rules.specs.Planning.{task, place_without, strike as strike_out};
-ghost use Rattle.rules.specs.Checking.{Checks, Does, ChecksOnce};
+ghost use Rattle.rules.specs.Checking.{Undoable, Checks, Does, ChecksOnce};
 
 use crate::facts::{Facts, difference};
 use crate::problem::{Problem, Standing};
@@ -37,19 +37,16 @@ impl Drop for StandingGuard<'_> {
     }
 }
 
-/// Does the step at a place with the facts of `gone` struck out; false, and nothing done, where it can't be done.
-fn do_step(table: &StepTable, place: u8, gone: Facts, standing: &mut Standing) -> bool
-    ensures { Does (place_without gone (slice_index_or table.now.places place None)) standing.old.facts result standing.new.facts }
+/// The standing after the step at a place, with the facts of `gone` struck out; none where it can't be done.
+fn do_step(table: &StepTable, place: u8, gone: Facts, standing: Standing) -> Option<Standing>
+    ensures { MatchOption result (Undoable (place_without gone (slice_index_or table.now.places place None)) standing.facts) (λ s. Does (place_without gone (slice_index_or table.now.places place None)) standing.facts s.facts) }
 {
-    let Some(held) = table.get(place) else {
-        return false;
-    };
-    let step = held.without(gone);
+    let step = table.get(place)?.without(gone);
     if !step.can_be_done(standing.facts) {
-        return false;
+        return None;
     }
-    standing.facts = step.result(standing.facts);
-    true
+    let facts = step.result(standing.facts);
+    Some(Standing { facts })
 }
 
 impl Problem {
@@ -69,9 +66,10 @@ impl Problem {
         };
         walk.standing.facts = difference(saved.facts, gone);
         for (i, place) in places.iter().enumerate() {
-            if !do_step(table, *place, gone, walk.standing) {
+            let Some(next) = do_step(table, *place, gone, *walk.standing) else {
                 return PlanCheck::StopsAt(i);
-            }
+            };
+            *walk.standing = next;
         }
         let missing = difference(order, walk.standing.facts);
         if missing == 0 {

@@ -1,7 +1,7 @@
 //! Sets of facts as masks: bit `f`, worth 2 to the power `f`, stands for the fact `f`.
 
-ghost use Rattle.std.specs.Prelude.{◌≡◌, ℕ, min, not, T, ◌==◌};
-ghost use Rattle.rules.specs.Sets.{◌⊆◌, ◌∩◌, ◌∖◌, Meets, inside, below, size as size_of};
+ghost use Rattle.std.specs.Prelude.{◌≡◌, ℕ, ◌<◌, ◌≤◌, min, not, T, ◌==◌};
+ghost use Rattle.rules.specs.Sets.{◌⊆◌, ◌∩◌, ◌∖◌, Meets, inside, below, single as only, size as size_of};
 
 /// A set of facts, of which there are at most 32.
 pub type Facts = u32;
@@ -29,6 +29,14 @@ pub fn meets(a: Facts, b: Facts) -> bool
     ensures fails { Meets a b → T result }
 {
     a & b != 0
+}
+
+/// The set of one fact alone; empty where no set can hold the fact.
+pub fn single(fact: u8) -> Facts
+    ensures within { fact < 32 → result ≡ only fact }
+    ensures past { 32 ≤ fact → result ≡ 0 }
+{
+    if fact < 32 { 1 << fact } else { 0 }
 }
 
 /// How many facts a set has.

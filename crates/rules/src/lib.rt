@@ -4,6 +4,7 @@
 
 mod check;
 mod facts;
+mod layer;
 mod problem;
 mod refusal;
 mod step;
@@ -11,7 +12,8 @@ mod table;
 mod theorems;
 
 pub use check::PlanCheck;
-pub use facts::{Facts, difference, facts_below, is_subset, meets, size};
+pub use facts::{Facts, difference, facts_below, is_subset, meets, single, size};
+pub use layer::Layer;
 pub use problem::{Problem, Standing};
 pub use refusal::Refusal;
 pub use step::Step;

@@ -45,7 +45,7 @@ impl FinderFault {
     {
         match self {
             FinderFault::Case(_) => 2,
-            FinderFault::Decider(fault) => fault.layer(),
+            FinderFault::Decider(fault) => u8::from(fault.layer()),
             _ => 3,
         }
     }

@@ -6,11 +6,10 @@ use Rattle.rules.proofs.problem.Problem.check_plan.Goals as goal
 pub loop-i-init : goal.loop-i-init
 loop-i-init c = walk_none (strike (task c.args.self.now) c.args.strike).steps c.difference-walk.result c.args.places.now
 
-pub returns-then-not-do_step : goal.returns-then-not-do_step
-returns-then-not-do_step c = record {
+pub returns-in_default : goal.returns-in_default
+returns-in_default c = record {
   says = stops_at (task c.args.self.now) c.args.strike c.difference-walk.result c.args.places.now c.loop-i.i
-      c.loop-i.walk.standing.now.facts c.difference-walk.ensures c.loop-i.invariant c.do_step.new.standing.facts
-      c.loop-i-test.true c.if-not-do_step.ensures;
+      c.loop-i.walk.standing.now.facts c.difference-walk.ensures c.loop-i.invariant c.loop-i-test.true c.in_default.ensures;
   same = search rules;
   once = checks_once;
 }
@@ -18,8 +17,8 @@ returns-then-not-do_step c = record {
 pub loop-i-preserved : goal.loop-i-preserved
 loop-i-preserved c =
     goes_on (task c.args.self.now) c.args.strike c.difference-walk.result c.args.places.now c.loop-i.i
-    c.loop-i.walk.standing.now.facts c.difference-walk.ensures c.loop-i.invariant c.do_step.new.standing.facts
-    c.loop-i-test.true c.if-not-do_step.ensures
+    c.loop-i.walk.standing.now.facts c.difference-walk.ensures c.loop-i.invariant c.in-Some.next.facts c.loop-i-test.true
+    c.in-Some.ensures
 
 pub returns-then-missing-eq0 : goal.returns-then-missing-eq0
 returns-then-missing-eq0 c = record {
