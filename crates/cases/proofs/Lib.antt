@@ -1,3 +1,2 @@
-pub mod Wiped
 pub mod Finished
 pub mod Made

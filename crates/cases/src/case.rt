@@ -1,6 +1,7 @@
 //! A case: how it is opened, what every call checks, and the plan check.
 
-ghost use Rattle.std.specs.Prelude.{◌≡◌, IfOk, Ok};
+ghost use Rattle.std.specs.Prelude.{◌≡◌, cond, Ok, Err, IfOk, ◌==◌};
+ghost use Rattle.rules.specs.declared.refusal.Refusal.TheVariants.{Unopened};
 ghost use Rattle.rules.specs.Refusals.{after};
 ghost use Rattle.cases.specs.State.{view, fresh, usable, names, naming, opening, opened};
 ghost use Rattle.cases.specs.Checks.{PlanChecked};
@@ -40,13 +41,21 @@ impl Case {
         self.known.problem().n
     }
 
-    /// Refuses an unopened case, and one of which a slip is out.
-    pub(crate) fn check_usable(&self) -> Result<(), Refusal>
-        ensures { result ≡ usable (view self.now) (Ok tt) }
+    /// Refuses an unopened case.
+    pub(crate) fn check_open(&self) -> Result<(), Refusal>
+        ensures { result ≡ cond ((view self.now).task.n == 0) (Err Unopened) (Ok tt) }
     {
         if self.facts() == 0 {
             return Err(Refusal::Unopened);
         }
+        Ok(())
+    }
+
+    /// Refuses an unopened case, and one of which a slip is out.
+    pub(crate) fn check_usable(&self) -> Result<(), Refusal>
+        ensures { result ≡ usable (view self.now) (Ok tt) }
+    {
+        self.check_open()?;
         if self.slip_out {
             return Err(Refusal::SlipOut);
         }
@@ -91,9 +100,7 @@ impl Case {
         ensures says { PlanChecked (view self.old) strike places.now result }
         ensures same { view self.new ≡ view self.old }
     {
-        if self.facts() == 0 {
-            return Err(Refusal::Unopened);
-        }
+        self.check_open()?;
         self.check_names(strike)?;
         Ok(self.known.check_plan(strike, places))
     }

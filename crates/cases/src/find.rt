@@ -7,13 +7,10 @@ ghost use Rattle.cases.specs.State.{view, known_of};
 ghost use Rattle.cases.specs.Finding.{finding, zero_row, Finds};
 
 use crate::case::Case;
-use deciders::{Decider, Row};
+use deciders::{Decider, MAX_PLACES, MAX_ROWS, Row};
 use pickers::Picker;
 use rules::{Facts, size};
 use waivers::FinderFault;
-
-/// The most rows of a working sheet, and the most places of a plan book.
-const MAX_ROWS: usize = 4096;
 
 /// What stands in a place of the plan book past the plan.
 const NO_PLACE: u8 = 255;
@@ -22,13 +19,7 @@ const NO_PLACE: u8 = 255;
 fn wipe_sheet(sheet: &mut [Row])
     ensures { sheet.new ≡ replicate (length sheet.old) zero_row }
 {
-    for row in sheet.iter_mut() {
-        *row = Row {
-            set: 0,
-            parent: 0,
-            place: 0,
-        };
-    }
+    sheet.fill(Row::default());
 }
 
 /// Marks the places from `from` on as empty.
@@ -36,9 +27,7 @@ fn wipe_book(book: &mut [u8], from: usize)
     requires { from ≤ length book.old }
     ensures { book.new ≡ take from book.old ++ replicate (length book.old - from) 255 }
 {
-    for i in from..book.len() {
-        book[i] = NO_PLACE;
-    }
+    book[from..].fill(NO_PLACE);
 }
 
 impl Case {
@@ -50,7 +39,7 @@ impl Case {
         if rows == 0 || rows > MAX_ROWS {
             return Err(FinderFault::SheetSize);
         }
-        if places < rows || places > MAX_ROWS {
+        if places < rows || places > MAX_PLACES {
             return Err(FinderFault::BookSize);
         }
         Ok(())

@@ -1,10 +1,9 @@
 //! Lists of calls, made one after another on a fresh case.
 
-ghost use Rattle.std.specs.Prelude.{◌≡◌, ℕ, IfOk};
-ghost use Rattle.rules.specs.Refusals.{after};
+ghost use Rattle.std.specs.Prelude.{◌≡◌, ℕ, Ok, Err, IfOk, MatchResult};
 ghost use Rattle.waivers.specs.Reaching.{Same};
 ghost use Rattle.cases.specs.State.{view};
-ghost use Rattle.cases.specs.Slips.{drawing, drawn, deciding, signed, torn};
+ghost use Rattle.cases.specs.Slips.{drawing, drawn};
 ghost use Rattle.cases.specs.Making.{Makes};
 ghost use Rattle.cases.specs.Law.{Law};
 
@@ -25,23 +24,11 @@ fn draw(case: &mut Case) -> Result<(u32, Facts), Refusal>
     Ok((number, set))
 }
 
-/// Signs a slip that says this, be it the one that is out or not.
-fn sign(case: &mut Case, number: u32, set: Facts) -> Result<(), Refusal>
-    ensures answer { result ≡ deciding (view case.old) number «set» }
-    ensures after { view case.new ≡ after result (signed «set») (view case.old) }
+/// What was decided of a slip. One that is handed back goes no further.
+fn without_slip(decided: Result<(), (Slip, Refusal)>) -> Result<(), Refusal>
+    ensures { MatchResult decided (λ _. result ≡ Ok tt) (λ e. result ≡ Err e.1) }
 {
-    match case.sign(Slip { number, set }) {
-        Ok(()) => Ok(()),
-        Err((Slip { number: _, set: _ }, refusal)) => Err(refusal),
-    }
-}
-
-/// Tears a slip that says this, be it the one that is out or not.
-fn tear(case: &mut Case, number: u32, set: Facts) -> Result<(), Refusal>
-    ensures answer { result ≡ deciding (view case.old) number «set» }
-    ensures after { view case.new ≡ after result torn (view case.old) }
-{
-    match case.tear(Slip { number, set }) {
+    match decided {
         Ok(()) => Ok(()),
         Err((Slip { number: _, set: _ }, refusal)) => Err(refusal),
     }
@@ -78,8 +65,8 @@ fn make<D: Decider, P: Picker>(case: &mut Case, decider: &mut D, picker: &P, cal
             }
         }
         Call::Draw => Answer::Drawn(draw(case)),
-        Call::Sign { number, set } => Answer::Done(sign(case, number, set)),
-        Call::Tear { number, set } => Answer::Done(tear(case, number, set)),
+        Call::Sign { number, set } => Answer::Done(without_slip(case.sign(Slip { number, set }))),
+        Call::Tear { number, set } => Answer::Done(without_slip(case.tear(Slip { number, set }))),
     }
 }
 

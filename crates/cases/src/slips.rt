@@ -1,6 +1,6 @@
 //! Drawing, signing and tearing slips.
 
-ghost use Rattle.std.specs.Prelude.{◌≡◌};
+ghost use Rattle.std.specs.Prelude.{◌≡◌, Ok, Err, MatchResult};
 ghost use Rattle.rules.specs.Refusals.{after};
 ghost use Rattle.cases.specs.State.{view};
 ghost use Rattle.cases.specs.Slips.{drawing, drawn, slip_data, given, deciding, signed, torn, drawn_and_signed, HandsBack};
@@ -16,12 +16,8 @@ impl Case {
         ensures after { view self.new ≡ drawn (drawing (view self.old)) (view self.old) }
     {
         self.check_usable()?;
-        let Some(set) = self.finding else {
-            return Err(Refusal::NoFinding);
-        };
-        if set == 0 {
-            return Err(Refusal::NoFinding);
-        }
+        let finding = self.finding.filter(|set| *set != 0);
+        let set = finding.ok_or(Refusal::NoFinding)?;
         self.slip_out = true;
         Ok(Slip {
             number: self.number,
@@ -33,15 +29,24 @@ impl Case {
     fn check_slip(&self, number: u32, set: Facts) -> Result<(), Refusal>
         ensures { result ≡ deciding (view self.now) number set }
     {
-        if self.facts() == 0 {
-            return Err(Refusal::Unopened);
+        self.check_open()?;
+        if self.slip_out && self.number == number && self.finding == Some(set) {
+            Ok(())
+        } else {
+            Err(Refusal::WrongSlip)
         }
-        if !self.slip_out || self.number != number {
-            return Err(Refusal::WrongSlip);
-        }
-        match self.finding {
-            Some(drawn) if drawn == set => Ok(()),
-            _ => Err(Refusal::WrongSlip),
+    }
+
+    /// Uses up the slip that is out, and says its set. Any other slip is handed back.
+    fn use_up(&self, slip: Slip) -> Result<Facts, (Slip, Refusal)>
+        ensures { MatchResult result (λ s. (s ≡ slip.«set») × (deciding (view self.now) slip.number slip.«set» ≡ Ok tt)) (λ e. (e.0 ≡ slip) × (deciding (view self.now) slip.number slip.«set» ≡ Err e.1)) }
+    {
+        match self.check_slip(slip.number, slip.set) {
+            Ok(()) => {
+                let Slip { number: _, set } = slip;
+                Ok(set)
+            }
+            Err(refusal) => Err((slip, refusal)),
         }
     }
 
@@ -69,10 +74,7 @@ impl Case {
         ensures answer { HandsBack slip (deciding (view self.old) slip.number slip.«set») result }
         ensures after { view self.new ≡ after (deciding (view self.old) slip.number slip.«set») (signed slip.«set») (view self.old) }
     {
-        if let Err(refusal) = self.check_slip(slip.number, slip.set) {
-            return Err((slip, refusal));
-        }
-        let Slip { number: _, set } = slip;
+        let set = self.use_up(slip)?;
         self.waive(set);
         Ok(())
     }
@@ -82,10 +84,7 @@ impl Case {
         ensures answer { HandsBack slip (deciding (view self.old) slip.number slip.«set») result }
         ensures after { view self.new ≡ after (deciding (view self.old) slip.number slip.«set») torn (view self.old) }
     {
-        if let Err(refusal) = self.check_slip(slip.number, slip.set) {
-            return Err((slip, refusal));
-        }
-        let Slip { number: _, set: _ } = slip;
+        self.use_up(slip)?;
         self.slip_out = false;
         Ok(())
     }
