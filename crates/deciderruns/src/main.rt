@@ -9,76 +9,70 @@ use std::io;
 mod ask;
 mod naive;
 mod problems;
+mod query;
 mod random;
 
 use ask::ask;
 use problems::{counter, free_facts, licence, switches};
-use random::compare;
+use query::Query;
+use random::{Tally, compare};
+
+/// Why the runs end early.
+#[derive(Drop)]
+enum RunFault {
+    /// A step is refused.
+    Refused(Refusal),
+    /// A line can't be printed.
+    Unprinted(io::Error),
+}
+
+impl From<Refusal> for RunFault {
+    fn from(refusal: Refusal) -> RunFault {
+        RunFault::Refused(refusal)
+    }
+}
+
+impl From<io::Error> for RunFault {
+    fn from(error: io::Error) -> RunFault {
+        RunFault::Unprinted(error)
+    }
+}
 
 /// Asks each of the shipped deciders, and screens over them.
-fn ask_all(
-    rt: &HostRuntime,
-    problem: &Problem,
-    strike: u32,
-    rows: usize,
-    places: usize,
-) -> io::Result<()> {
-    ask(rt, "forward", &mut Forward, problem, strike, rows, places)?;
-    ask(rt, "backward", &mut Backward, problem, strike, rows, places)?;
-    ask(
-        rt,
-        "screen over forward",
-        &mut Screen { below: Forward },
-        problem,
-        strike,
-        rows,
-        places,
-    )?;
-    ask(
-        rt,
-        "screen over backward",
-        &mut Screen { below: Backward },
-        problem,
-        strike,
-        rows,
-        places,
-    )?;
+fn ask_all(rt: &HostRuntime, query: Query<'_>) -> io::Result<()> {
+    let mut over_forward = Screen { below: Forward };
+    let mut over_backward = Screen { below: Backward };
     let mut twice = Screen {
         below: Screen { below: Backward },
     };
-    ask(
-        rt,
-        "screen over a screen",
-        &mut twice,
-        problem,
-        strike,
-        rows,
-        places,
-    )
+    ask(rt, "forward", &mut Forward, query)?;
+    ask(rt, "backward", &mut Backward, query)?;
+    ask(rt, "screen over forward", &mut over_forward, query)?;
+    ask(rt, "screen over backward", &mut over_backward, query)?;
+    ask(rt, "screen over a screen", &mut twice, query)
 }
 
 /// Three steps freely give a fact, and a fourth fact is ordered and never given.
 fn run_free(rt: &HostRuntime, problem: &Problem) -> io::Result<()> {
     println!(rt; "free facts")?;
-    ask(rt, "forward", &mut Forward, problem, 0, 8, 8)?;
-    ask(rt, "forward", &mut Forward, problem, 0, 7, 8)?;
+    ask(rt, "forward", &mut Forward, Query::whole(problem, 8, 8))?;
+    ask(rt, "forward", &mut Forward, Query::whole(problem, 7, 8))?;
+    let small = Query::whole(problem, 1, 1);
     ask(
         rt,
         "screen over forward",
         &mut Screen { below: Forward },
-        problem,
-        0,
-        1,
-        1,
+        small,
     )?;
-    ask_all(rt, problem, 8, 1, 1)
+    ask_all(rt, Query { strike: 8, ..small })
 }
 
-/// A small case with each of its facts struck out.
+/// A small case with each of its facts struck out, and with none.
 fn run_licence(rt: &HostRuntime, problem: &Problem) -> io::Result<()> {
     println!(rt; "licence")?;
-    for fact in 0..5u32 {
-        ask_all(rt, problem, if fact == 4 { 0 } else { 1 << fact }, 16, 16)?;
+    let whole = Query::whole(problem, 16, 16);
+    for strike in [1, 2, 4, 8, 0] {
+        ask_all(rt, Query { strike, ..whole })?;
     }
     Ok(())
 }
@@ -98,7 +92,7 @@ fn run_limits(rt: &HostRuntime, problem: &Problem) -> io::Result<()> {
         (4097, 4096),
         (4097, 4097),
     ] {
-        ask_all(rt, problem, 0, rows, places)?;
+        ask_all(rt, Query::whole(problem, rows, places))?;
     }
     Ok(())
 }
@@ -106,44 +100,51 @@ fn run_limits(rt: &HostRuntime, problem: &Problem) -> io::Result<()> {
 /// Long plans and full sheets.
 fn run_large(rt: &HostRuntime, count: &Problem, switched: &Problem) -> io::Result<()> {
     println!(rt; "counter")?;
-    ask_all(rt, count, 0, 512, 512)?;
-    ask_all(rt, count, 0, 511, 512)?;
+    ask_all(rt, Query::whole(count, 512, 512))?;
+    ask_all(rt, Query::whole(count, 511, 512))?;
     println!(rt; "switches")?;
-    ask(rt, "forward", &mut Forward, switched, 0, 4096, 4096)?;
-    ask(rt, "forward", &mut Forward, switched, 0, 4095, 4096)?;
-    ask_all(rt, switched, 1 << 12, 4096, 4096)
+    let large = Query::whole(switched, 4096, 4096);
+    ask(rt, "forward", &mut Forward, large)?;
+    ask(
+        rt,
+        "forward",
+        &mut Forward,
+        Query {
+            rows: 4095,
+            ..large
+        },
+    )?;
+    ask_all(
+        rt,
+        Query {
+            strike: 1 << 12,
+            ..large
+        },
+    )
 }
 
-fn run(rt: &HostRuntime) -> Result<io::Result<()>, Refusal> {
-    let free = free_facts()?;
+fn run(rt: &HostRuntime) -> Result<(), RunFault> {
     let case = licence()?;
-    let count = counter()?;
-    let switched = switches()?;
-    let random = compare()?;
-    Ok(report(rt, &free, &case, &count, &switched, random))
-}
-
-fn report(
-    rt: &HostRuntime,
-    free: &Problem,
-    case: &Problem,
-    count: &Problem,
-    switched: &Problem,
-    random: (u32, u32, u32, u32),
-) -> io::Result<()> {
-    run_free(rt, free)?;
-    run_licence(rt, case)?;
-    run_limits(rt, case)?;
-    run_large(rt, count, switched)?;
-    let (solvable, blocked, beyond, wrong) = random;
+    run_free(rt, &free_facts()?)?;
+    run_licence(rt, &case)?;
+    run_limits(rt, &case)?;
+    run_large(rt, &counter()?, &switches()?)?;
+    let Tally {
+        solvable,
+        blocked,
+        beyond,
+        wrong,
+    } = compare()?;
     println!(rt;
         "random: {solvable} solvable, {blocked} blocked, {beyond} beyond reach, {wrong} wrong"
-    )
+    )?;
+    Ok(())
 }
 
 fn main(rt: HostRuntime) -> io::Result<()> {
     match run(&rt) {
-        Ok(done) => done,
-        Err(_) => println!(rt; "a step was refused"),
+        Ok(()) => Ok(()),
+        Err(RunFault::Refused(_)) => println!(rt; "a step was refused"),
+        Err(RunFault::Unprinted(error)) => Err(error),
     }
 }

@@ -2,42 +2,40 @@
 
 use crate::ask::walks;
 use crate::naive::reachable;
+use crate::query::Query;
 use deciders::{Backward, Decider, DeciderFault, Forward, Row, Screen, Verdict};
-use rules::{Problem, Refusal, Standing, Step, StepTable, difference};
+use draws::Generator;
+use rules::{Facts, Problem, Refusal, Standing, Step, StepTable, difference};
 
 const PROBLEMS: u32 = 400;
 
-/// Numbers that look random, each from the one before.
-#[derive(Clone, Copy)]
-struct Numbers(u32);
+/// Sets that look random.
+#[derive(Drop)]
+struct Sets(Generator);
 
-impl Numbers {
-    fn next(&mut self) -> u32 {
-        self.0 = self.0.wrapping_mul(1_664_525).wrapping_add(1_013_904_223);
-        self.0 >> 10
-    }
-
+impl Sets {
     /// A set of some of six facts.
-    fn facts(&mut self) -> u32 {
-        self.next() % 64
+    fn some(&mut self) -> Facts {
+        (self.0.draw() >> 10) % 64
     }
 
     /// A set of few of six facts.
-    fn few(&mut self) -> u32 {
-        self.facts() & self.facts()
+    fn few(&mut self) -> Facts {
+        self.some() & self.some()
     }
 }
 
-fn problem(numbers: &mut Numbers) -> Result<Problem, Refusal> {
+/// A problem of six facts and up to eight steps.
+fn problem(sets: &mut Sets) -> Result<Problem, Refusal> {
     let mut table = StepTable::new();
     for place in 0..8u8 {
-        if numbers.next() % 4 != 0 {
-            let gives = numbers.few();
-            let takes = difference(numbers.few(), gives);
+        if sets.some() % 4 != 0 {
+            let gives = sets.few();
+            let takes = difference(sets.few(), gives);
             table.put(
                 place,
                 Step {
-                    needs: numbers.few(),
+                    needs: sets.few(),
                     gives,
                     takes,
                 },
@@ -46,22 +44,20 @@ fn problem(numbers: &mut Numbers) -> Result<Problem, Refusal> {
     }
     Ok(Problem {
         n: 6,
-        standing: Standing {
-            facts: numbers.few(),
-        },
-        order: numbers.facts(),
-        waived: numbers.few() & numbers.few(),
+        standing: Standing { facts: sets.few() },
+        order: sets.some(),
+        waived: sets.few() & sets.few(),
         table,
     })
 }
 
-/// What the answers were: solvable, blocked, beyond reach, and wrong.
-#[derive(Clone, Copy)]
-struct Tally {
-    solvable: u32,
-    blocked: u32,
-    beyond: u32,
-    wrong: u32,
+/// What the answers were.
+#[derive(Clone, Copy, Default)]
+pub struct Tally {
+    pub solvable: u32,
+    pub blocked: u32,
+    pub beyond: u32,
+    pub wrong: u32,
 }
 
 impl Tally {
@@ -69,105 +65,78 @@ impl Tally {
     fn add(
         &mut self,
         answer: Result<Verdict, DeciderFault>,
-        problem: &Problem,
-        strike: u32,
-        rows: usize,
+        query: Query<'_>,
         book: &[u8],
         solvable: bool,
     ) {
-        let right = match answer {
-            Ok(verdict) => match verdict {
-                Verdict::Solvable(length) => {
-                    self.solvable = self.solvable.wrapping_add(1);
-                    let k = length as usize;
-                    solvable && k < rows && k <= book.len() && walks(problem, strike, &book[..k])
-                }
-                Verdict::Blocked => {
-                    self.blocked = self.blocked.wrapping_add(1);
-                    !solvable
-                }
-            },
+        match answer {
+            Ok(Verdict::Solvable(length)) => {
+                self.solvable = self.solvable.wrapping_add(1);
+                let k = usize::from(length);
+                let plan = book.get(..k).filter(|_| k < query.rows);
+                let walked = plan.is_some_and(|plan| walks(query.problem, query.strike, plan));
+                self.check(solvable && walked);
+            }
+            Ok(Verdict::Blocked) => {
+                self.blocked = self.blocked.wrapping_add(1);
+                self.check(!solvable);
+            }
             Err(_) => {
                 self.beyond = self.beyond.wrapping_add(1);
-                rows < 64
+                self.check(query.rows < 64);
             }
-        };
-        if !right {
-            self.wrong = self.wrong.wrapping_add(1);
         }
+    }
+
+    /// Counts what is not right.
+    fn check(&mut self, right: bool) {
+        self.wrong = self.wrong.wrapping_add(u32::from(!right));
     }
 }
 
 /// Asks one decider.
-fn ask<D: Decider>(
-    decider: &mut D,
-    problem: &Problem,
-    strike: u32,
-    rows: usize,
-    solvable: bool,
-    tally: &mut Tally,
-) {
-    let mut sheet = [Row {
-        set: 0,
-        parent: 0,
-        place: 0,
-    }; 64];
+fn ask<D: Decider>(decider: &mut D, query: Query<'_>, solvable: bool, tally: &mut Tally) {
+    let mut sheet = [Row::default(); 64];
     let mut book = [0u8; 64];
-    if rows <= 64 {
-        let answer = decider.query(problem, strike, &mut sheet[..rows], &mut book);
-        tally.add(answer, problem, strike, rows, &book, solvable);
+    if let Some(sheet) = sheet.get_mut(..query.rows) {
+        let answer = decider.query(query.problem, query.strike, sheet, &mut book);
+        tally.add(answer, query, &book, solvable);
     }
 }
 
 /// Asks each decider, with all rows and with few.
-fn ask_all(problem: &Problem, strike: u32, tally: &mut Tally) {
+fn ask_all(problem: &Problem, strike: Facts, tally: &mut Tally) {
     let (reached, solvable) = reachable(problem, strike);
+    let with_rows = |rows: usize| Query {
+        problem,
+        strike,
+        rows,
+        places: 64,
+    };
     for rows in [64usize, 5, 2] {
-        ask(&mut Forward, problem, strike, rows, solvable, tally);
-        ask(&mut Backward, problem, strike, rows, solvable, tally);
-        ask(
-            &mut Screen { below: Forward },
-            problem,
-            strike,
-            rows,
-            solvable,
-            tally,
-        );
-        ask(
-            &mut Screen { below: Backward },
-            problem,
-            strike,
-            rows,
-            solvable,
-            tally,
-        );
+        let query = with_rows(rows);
+        ask(&mut Forward, query, solvable, tally);
+        ask(&mut Backward, query, solvable, tally);
+        ask(&mut Screen { below: Forward }, query, solvable, tally);
+        ask(&mut Screen { below: Backward }, query, solvable, tally);
     }
     // as many rows as there are standings are enough, and of a blocked problem no fewer
     let before = tally.beyond;
-    ask(&mut Forward, problem, strike, reached, solvable, tally);
-    if tally.beyond != before {
-        tally.wrong = tally.wrong.wrapping_add(1);
-    }
+    ask(&mut Forward, with_rows(reached), solvable, tally);
+    tally.check(tally.beyond == before);
     if reached > 1 {
-        ask(&mut Forward, problem, strike, reached - 1, solvable, tally);
-        if !solvable && tally.beyond == before {
-            tally.wrong = tally.wrong.wrapping_add(1);
-        }
+        ask(&mut Forward, with_rows(reached - 1), solvable, tally);
+        tally.check(solvable || tally.beyond != before);
     }
 }
 
-/// Decides random problems in every way, and counts the answers: solvable, blocked, beyond reach, and wrong.
-pub fn compare() -> Result<(u32, u32, u32, u32), Refusal> {
-    let mut numbers = Numbers(2_026);
-    let mut tally = Tally {
-        solvable: 0,
-        blocked: 0,
-        beyond: 0,
-        wrong: 0,
-    };
+/// Decides random problems in every way, and counts the answers.
+pub fn compare() -> Result<Tally, Refusal> {
+    let mut sets = Sets(Generator::new(2_026));
+    let mut tally = Tally::default();
     for _ in 0..PROBLEMS {
-        let problem = problem(&mut numbers)?;
-        ask_all(&problem, numbers.few(), &mut tally);
+        let problem = problem(&mut sets)?;
+        ask_all(&problem, sets.few(), &mut tally);
     }
-    Ok((tally.solvable, tally.blocked, tally.beyond, tally.wrong))
+    Ok(tally)
 }

@@ -1,0 +1,30 @@
+//! Numbers that look random, the same on each run.
+
+#![tactic(auto)]
+
+ghost use Rattle.std.specs.Prelude.{◌≡◌, ◌+◌, ◌*◌, ◌%◌, ◌^◌};
+
+/// A linear congruential generator. The low bits of what it draws repeat soon: use the high ones.
+#[derive(Drop)]
+pub struct Generator {
+    state: u32,
+}
+
+impl Generator {
+    /// A generator that begins with this seed.
+    pub fn new(seed: u32) -> Generator
+        ensures { result.state ≡ seed }
+    {
+        Generator { state: seed }
+    }
+
+    /// The next number.
+    pub fn draw(&mut self) -> u32
+        ensures drawn { result ≡ (self.old.state * 1664525 + 1013904223) % 2 ^ 32 }
+        ensures state { self.new.state ≡ result }
+    {
+        let product = self.state.wrapping_mul(1_664_525);
+        self.state = product.wrapping_add(1_013_904_223);
+        self.state
+    }
+}
