@@ -1,52 +1,28 @@
 -- Sets of facts, digit by digit.
-use Rattle.std.proofs.Common.{◌≡◌, ℕ, zero, suc, ◌+◌, ◌-◌, ◌/◌, ◌%◌, ◌^◌, ◌<◌, ◌≤◌, min, max, Bool, true, false, not, T, eqb, ◌⊎◌, sym, refl, ap, ◌∙◌, subst, inl, inr, le_of_eq, eq-zero-or-pos, one-add, arith, eqb→eq, T_not, pow_pos}
+use Rattle.std.proofs.Common.{◌≡◌, ℕ, zero, suc, ◌+◌, ◌-◌, ◌/◌, ◌%◌, ◌^◌, ◌<◌, ◌≤◌, min, max, Bool, true, false, not, T, eqb, ◌⊎◌, sym, refl, ap, ◌∙◌, subst, inl, inr, le_of_eq, eq-zero-or-pos, arith, eqb→eq, T_not, pow_pos}
 use native.Mathlib.Decide.{dec_lt}
+use Rattle.std.proofs.lemmas.Bool.{cases_eq}
 use lib.Count.{ones, ones_step, ones-ones}
-use Rattle.std.proofs.lemmas.Nat.{shr-shr}
+use Rattle.std.proofs.lemmas.Nat.Bits.{bit_at-lt, bit_at_lowest, bit_at-suc, bit_at-zero, bit_at_and, bit_at_or, bit_at_xor, bit_at-pow_same, bit_at-pow_other, bit_at_ones, bit_at_ones_above, bit_at_above, same_from_bits}
 use lib.Arith.{bin_ind}
-use lib.Bits.{bit_and, bit_or, bit_xor, differ, and_step, or_step, xor_step, and_shr, or_shr, xor_shr}
+use lib.Bits.{bit_and, bit_or, or_step, or_shr}
 use Rattle.rules.specs.Sets.{bit, ◌∈◌, ◌∖◌, ◌⊆◌, ◌∪◌, ◌∩◌, Meets, single, below, size, inside, SetsMean, SizesMean}
-
--- the lowest digit of each operation
-and_low : (a b : ℕ) → bit_and a b % 2 ≡ min (a % 2) (b % 2)
-and_low a b = omega (arith, and_step a b)
-
-or_low : (a b : ℕ) → bit_or a b % 2 ≡ max (a % 2) (b % 2)
-or_low a b = omega (arith, or_step a b)
-
-differ_digit : (x y : ℕ) → x < 2 → y < 2 → differ x (min x y) ≡ x - y
-differ_digit zero zero h k = refl
-differ_digit zero (suc y) h k = omega arith
-differ_digit (suc zero) zero h k = refl
-differ_digit (suc zero) (suc zero) h k = refl
-differ_digit (suc zero) (suc (suc y)) h k = absurd (omega arith)
-differ_digit (suc (suc x)) y h k = absurd (omega arith)
-
-minus_low : (a b : ℕ) → bit_xor a (bit_and a b) % 2 ≡ a % 2 - b % 2
-minus_low a b =
-    let e = and_low a b in
-    let d = differ_digit (a % 2) (b % 2) (omega arith) (omega arith) in
-    let s = xor_step a (bit_and a b) in
-    let t : differ (a % 2) (bit_and a b % 2) ≡ a % 2 - b % 2 = rw e d in
-    omega arith
 
 pub bit_le : (a f : ℕ) → bit a f ≤ 1
 unfolding bit
-bit_le a f = omega arith
+bit_le a f = omega (arith, bit_at-lt a f)
 
 pub bit_of_and : (a b f : ℕ) → bit (bit_and a b) f ≡ min (bit a f) (bit b f)
 unfolding bit
-bit_of_and a b f = ap (λ (x : ℕ). x % 2) (and_shr a b f) ∙ and_low (a / 2 ^ f) (b / 2 ^ f)
+bit_of_and = bit_at_and
 
 pub bit_of_or : (a b f : ℕ) → bit (bit_or a b) f ≡ max (bit a f) (bit b f)
 unfolding bit
-bit_of_or a b f = ap (λ (x : ℕ). x % 2) (or_shr a b f) ∙ or_low (a / 2 ^ f) (b / 2 ^ f)
+bit_of_or = bit_at_or
 
 pub bit_minus : (a b f : ℕ) → bit (a ∖ b) f ≡ bit a f - bit b f
 unfolding bit ◌∖◌
-bit_minus a b f =
-    ap (λ (x : ℕ). x % 2) (xor_shr a (bit_and a b) f ∙ ap (bit_xor (a / 2 ^ f)) (and_shr a b f))
-    ∙ minus_low (a / 2 ^ f) (b / 2 ^ f)
+bit_minus a b f = omega (arith, bit_at_xor a (bit_and a b) f, bit_at_and a b f, bit_at-lt a f, bit_at-lt b f)
 
 pub ruleset bits = (bit_le, bit_of_and, bit_of_or, bit_minus)
 
@@ -54,15 +30,15 @@ pub ruleset bits = (bit_le, bit_of_and, bit_of_or, bit_minus)
 
 pub bit_low : (a : ℕ) → bit a zero ≡ a % 2
 unfolding bit
-bit_low a = omega arith
+bit_low = bit_at_lowest
 
 pub bit_suc : (a f : ℕ) → bit a (suc f) ≡ bit (a / 2) f
 unfolding bit
-bit_suc a f = ap (λ (x : ℕ). a / 2 ^ x % 2) (sym (one-add f)) ∙ ap (λ (x : ℕ). x % 2) (sym (shr-shr a 1 f))
+bit_suc = bit_at-suc
 
 pub bit_none : (f : ℕ) → bit zero f ≡ zero
-bit_none zero = bit_low zero
-bit_none (suc f) = bit_suc zero f ∙ bit_none f
+unfolding bit
+bit_none = bit_at-zero
 
 pub some_bit : (a : ℕ) → zero < a → (f : ℕ) × (bit a f ≡ 1)
 some_bit = bin_ind (λ (n : ℕ). zero < n → (f : ℕ) × (bit n f ≡ 1)) (λ h. absurd (omega arith)) step
@@ -77,14 +53,12 @@ half_pow : (f : ℕ) → 2 ^ suc f / 2 ≡ 2 ^ f
 half_pow f = omega arith
 
 pub single_in : (f : ℕ) → bit (2 ^ f) f ≡ 1
-single_in zero = bit_low 1
-single_in (suc f) = bit_suc (2 ^ suc f) f ∙ rw half_pow (single_in f)
+unfolding bit
+single_in = bit_at-pow_same
 
 pub single_only : (f g : ℕ) → bit (2 ^ f) g ≡ 1 → g ≡ f
-single_only zero zero h = refl
-single_only zero (suc g) h = absurd (omega (arith, bit_suc 1 g, bit_none g))
-single_only (suc f) zero h = absurd (omega (arith, bit_low (2 ^ suc f)))
-single_only (suc f) (suc g) h = ap suc (single_only f g (sym (bit_suc (2 ^ suc f) g ∙ ap (λ (x : ℕ). bit x g) (half_pow f)) ∙ h))
+unfolding bit
+single_only f g h = elim (cases_eq g f) [ inl e ↦ e | inr apart ↦ absurd (omega (arith, h, bit_at-pow_other f g apart)) ]
 
 -- ---- two sets share a fact or lie apart
 
@@ -120,8 +94,8 @@ ones_same = bin_ind (λ (n : ℕ). (a : ℕ) → a ⊆ n → ones n ≤ ones a �
 
 -- a set is its facts
 pub same_facts : (b a : ℕ) → a ⊆ b → b ⊆ a → a ≡ b
-same_facts = bin_ind (λ (n : ℕ). (a : ℕ) → a ⊆ n → n ⊆ a → a ≡ n) (λ a h k. none_below a h)
-    (λ n ih a h k. omega (arith, ih (a / 2) (halves a n h) (halves n a k), h zero, k zero, bit_low a, bit_low n))
+unfolding bit
+same_facts b a h k = same_from_bits a b (λ f. omega (arith, h f, k f))
 
 -- ---- the difference, as code on numbers of k digits has it: a & !b
 
@@ -134,9 +108,8 @@ flip (suc k) b (suc f) h i =
     ∙ ap (λ (x : ℕ). 1 - x) (sym (bit_suc b f))
 
 pub bit_high : (k a f : ℕ) → a < 2 ^ k → k ≤ f → bit a f ≡ zero
-bit_high zero a f h i = ap (λ (x : ℕ). bit x f) (omega arith) ∙ bit_none f
-bit_high (suc k) a zero h i = absurd (omega arith)
-bit_high (suc k) a (suc f) h i = bit_suc a f ∙ bit_high k (a / 2) f (omega arith) (omega arith)
+unfolding bit
+bit_high k a f = bit_at_above a k f
 
 and_not_at : (k a b f : ℕ) → a < 2 ^ k → b < 2 ^ k → bit (bit_and a (2 ^ k - 1 - b)) f ≡ bit (a ∖ b) f
 and_not_at k a b f h i = elim (dec_lt f k) [
@@ -181,7 +154,7 @@ ones_apart = bin_ind (λ (n : ℕ). (b : ℕ) → ((f : ℕ) → bit n f + bit b
       ones_step n,
       ones_step b,
       ones_step (n ∪ b),
-      or_low n b,
+      or_step n b,
       or_half n b,
       ap ones (or_half n b),
       ih (b / 2) (λ f. omega (arith, h (suc f), bit_suc n f, bit_suc b f)),
@@ -193,12 +166,12 @@ ones_apart = bin_ind (λ (n : ℕ). (b : ℕ) → ((f : ℕ) → bit n f + bit b
 -- ---- the facts below n
 
 pub bit_below : (n f : ℕ) → f < n → bit (below n) f ≡ 1
-bit_below n f h =
-    let e : 2 ^ n - 1 - 0 ≡ 2 ^ n - 1 = omega arith in
-    omega (arith, ap (λ (x : ℕ). bit x f) e, flip n 0 f (pow_pos n) h, bit_none f)
+unfolding bit
+bit_below = bit_at_ones
 
 pub bit_above : (n f : ℕ) → n ≤ f → bit (below n) f ≡ zero
-bit_above n f h = bit_high n (below n) f (omega (arith, pow_pos n)) h
+unfolding bit
+bit_above = bit_at_ones_above
 
 -- a set of facts below n is a number below 2 ^ n
 pub sub_below : (n a : ℕ) → a ⊆ below n → a < 2 ^ n

@@ -1,10 +1,7 @@
 use Rattle.std.proofs.Common.{rules}
-use Rattle.rules.specs.Planning.{task, strike}
-use Rattle.rules.proofs.Checks.{checks_once, walk_none, stops_at, goes_on, ends_well, ends_short}
+use Rattle.rules.specs.Planning.{task}
+use Rattle.rules.proofs.Checks.{checks_once, stops_at, goes_on, ends_well, ends_short}
 use Rattle.rules.proofs.problem.Problem.check_plan.Goals as goal
-
-pub loop-i-init : goal.loop-i-init
-loop-i-init c = walk_none (strike (task c.args.self.now) c.args.strike).steps c.difference-walk.result c.args.places.now
 
 pub returns-in_default : goal.returns-in_default
 returns-in_default c = record {
