@@ -2,7 +2,7 @@
 use Rattle.std.proofs.Common.{◌≡◌, ℕ, ◌-◌, ◌≤◌, Bool, true, false, cond, ◌||◌, eqb, ltb, List, ◌++◌, length, take, replicate, Some, Ok, Err, Result, sym, refl, ap, ◌∙◌, subst, arith, length-append}
 use lib.ListN.{length-replicate}
 use Rattle.std.proofs.lemmas.List.{take_at, length-take-le}
-use Rattle.std.proofs.lemmas.Bool.{ltb-false}
+use Rattle.std.proofs.lemmas.Bool.{ltb-false, or_parts}
 use Rattle.rules.specs.Sets.{size}
 use Rattle.rules.specs.Planning.{Plan, strike}
 use Rattle.rules.specs.declared.refusal.Refusal.TheVariants.{Unopened, SlipOut}
@@ -28,16 +28,12 @@ ok_by false false true d q = absurd (let z : ◌≡◌ {A = ℕ} 0 1 = cc in ome
 ok_by false false false true q = absurd (let z : ◌≡◌ {A = ℕ} 0 1 = cc in omega arith)
 ok_by false false false false q = (refl, refl)
 
-neither : (a b : Bool) → (a || b) ≡ false → (a ≡ false) × (b ≡ false)
-neither true b q = absurd (let z : ◌≡◌ {A = ℕ} 0 1 = cc in omega arith)
-neither false b q = (refl, q)
-
 -- where find is not refused, the sheet has at most 4,096 rows, and the book is at least as long
 pub accepted_sizes : (k : State) (n m : ℕ) → finding k n m ≡ Ok tt → (n ≤ m) × (n ≤ 4096)
 unfolding okay
 accepted_sizes k n m q =
     let (c, d) = ok_by (eqb k.task.n 0) k.slip_out (eqb n 0 || ltb 4096 n) (ltb m n || ltb 4096 m) q in
-    (ltb-false m n (neither (ltb m n) (ltb 4096 m) d).0, ltb-false 4096 n (neither (eqb n 0) (ltb 4096 n) c).1)
+    (ltb-false m n (or_parts (ltb m n) (ltb 4096 m) d).0, ltb-false 4096 n (or_parts (eqb n 0) (ltb 4096 n) c).1)
 
 module _ (c : Choice) (R : ℕ → Type 0) (m : ℕ) (k : State) (s : List Row) (b : List ℕ) where
   -- a refused find changes nothing

@@ -1,6 +1,7 @@
 -- Each call keeps the law, and runs go on.
 use Rattle.std.proofs.Common.{◌≡◌, ℕ, Bool, true, false, cond, ◌&&◌, ◌||◌, T, eqb, ltb, List, [], ◌∷◌, ◌++◌, length, get_or, replicate, Some, None, Ok, Err, vec_items, vec_len, Option, Result, Vec, sym, refl, ap, ◌∙◌, subst, arith, eqb→eq, length-append}
 use Rattle.std.specs.Vec.{with_items}
+use Rattle.std.proofs.lemmas.Bool.{and_parts}
 use Rattle.std.proofs.lemmas.List.{with_items_is}
 use Rattle.std.proofs.lemmas.Simd.{Each1-from_get_or}
 use Rattle.std.specs.declared.alloc.Global.{Global}
@@ -88,10 +89,6 @@ module _ (k k' : State) (x : Call) (a : Answer) (r : Result Unit Refusal) (f : S
 okay : Result Unit Refusal
 okay = Ok tt
 
-both_true : (a b : Bool) → (a && b) ≡ true → (a ≡ true) × (b ≡ true)
-both_true true b e = (refl, e)
-both_true false b e = absurd (let z : ◌≡◌ {A = ℕ} 0 1 = cc in omega arith)
-
 finds_set : (o : Option ℕ) (s : ℕ) → finds o s ≡ true → o ≡ Some s
 finds_set None s e = absurd (let z : ◌≡◌ {A = ℕ} 0 1 = cc in omega arith)
 finds_set (Some t) s e = ap Some (eqb→eq t s (subst T (sym e) tt))
@@ -107,8 +104,8 @@ decided_set : (k : State) (number s : ℕ) → deciding k number s ≡ Ok tt →
 unfolding okay
 decided_set k number s e =
     let out = accepted (eqb k.task.n 0) (is_out k number s) e in
-    let rest = (both_true k.slip_out (eqb k.number number && finds k.finding s) out).1 in
-    finds_set k.finding s (both_true (eqb k.number number) (finds k.finding s) rest).1
+    let rest = (and_parts k.slip_out (eqb k.number number && finds k.finding s) out).1 in
+    finds_set k.finding s (and_parts (eqb k.number number) (finds k.finding s) rest).1
 
 -- the task with more facts waived
 abbrev waiving : Task → ℕ → Task

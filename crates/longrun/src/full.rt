@@ -12,12 +12,9 @@ use std::alloc::{AllocError, Global};
 pub fn full_list(heap: Global) -> Result<Vec<Call>, AllocError> {
     let mut calls = Vec::new(heap);
     calls.push(open(9, 9, 0, 1 << 8))?;
-    let mut place = 0u8;
-    for needs in 0..256u32 {
-        if size(needs) == 5 && place < 64 {
-            calls.push(put(place, needs, 1 << 8, 0))?;
-            place += 1;
-        }
+    let fives = (0..256u32).filter(|set| size(*set) == 5);
+    for (place, needs) in (0..64u8).zip(fives) {
+        calls.push(put(place, needs, 1 << 8, 0))?;
     }
     calls.push(find(heap, 64, 64)?)?;
     calls.push(Call::Draw)?;

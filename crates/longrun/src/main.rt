@@ -5,7 +5,6 @@
 use cases::{Answer, Call, run};
 use deciders::{Backward, Decider, DeciderFault, Forward, Screen};
 use pickers::{BranchingPicker, CountingPicker, Picker};
-use std::alloc::{AllocError, Global};
 use std::io;
 use waivers::FinderFault;
 
@@ -32,15 +31,6 @@ fn name(call: &Call) -> &'static str {
         Call::Sign { .. } => "sign",
         Call::Tear { .. } => "tear",
     }
-}
-
-/// The names of the calls, in turn.
-fn names(heap: Global, calls: &[Call]) -> Result<Vec<&'static str>, AllocError> {
-    let mut names = Vec::new(heap);
-    for call in calls {
-        names.push(name(call))?;
-    }
-    Ok(names)
 }
 
 /// Prints why find has no set.
@@ -81,7 +71,7 @@ fn report<D: Decider, P: Picker>(
     calls: Vec<Call>,
 ) -> io::Result<()> {
     let heap = rt.alloc();
-    let names = names(heap, calls.as_slice())?;
+    let names: Vec<&'static str> = calls.iter().map(name).collect(heap)?;
     let (answers, _case) = run(heap, decider, picker, calls)?;
     for (name, answer) in names.iter().zip(answers.iter()) {
         tell(rt, name, answer)?;

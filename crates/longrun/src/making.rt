@@ -25,12 +25,7 @@ pub fn put(place: u8, needs: Facts, gives: Facts, takes: Facts) -> Call {
 
 /// Find on a sheet of `rows` rows and a book of `places` places.
 pub fn find(heap: Global, rows: usize, places: usize) -> Result<Call, AllocError> {
-    let row = Row {
-        set: 0,
-        parent: 0,
-        place: 0,
-    };
-    let sheet = vec![in heap; row; rows]?;
+    let sheet = vec![in heap; Row::default(); rows]?;
     let book = vec![in heap; 0u8; places]?;
     Ok(Call::Find { sheet, book })
 }
