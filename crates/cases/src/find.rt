@@ -63,7 +63,7 @@ impl Case {
         wipe_sheet(sheet);
         match searched {
             Ok(found) => {
-                wipe_book(book, found.length as usize);
+                wipe_book(book, usize::from(found.length));
                 self.finding = Some(found.set);
                 Ok((found.set, size(found.set), found.length))
             }

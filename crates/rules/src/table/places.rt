@@ -30,7 +30,7 @@ impl StepTable {
         ensures { result ≡ slice_index_or self.now.places place None }
     {
         if place < PLACES {
-            self.places[place as usize]
+            self.places[usize::from(place)]
         } else {
             None
         }
@@ -50,7 +50,7 @@ impl StepTable {
         if self.get(place).is_some() {
             return Err(Refusal::PlaceTaken);
         }
-        self.places[place as usize] = Some(step);
+        self.places[usize::from(place)] = Some(step);
         Ok(())
     }
 
@@ -65,7 +65,7 @@ impl StepTable {
         if self.get(place).is_none() {
             return Err(Refusal::PlaceEmpty);
         }
-        self.places[place as usize] = None;
+        self.places[usize::from(place)] = None;
         Ok(())
     }
 }

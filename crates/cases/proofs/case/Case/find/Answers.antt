@@ -1,4 +1,4 @@
-use Rattle.std.proofs.Common.{ℕ, length, Err, sym, ap, ◌∙◌}
+use Rattle.std.proofs.Common.{◌≡◌, ℕ, ◌-◌, ◌++◌, length, take, replicate, Err, sym, ap, ◌∙◌, subst}
 use Rattle.std.proofs.lemmas.Result.{err_from_is_err_and}
 use Rattle.waivers.specs.Known.{known}
 use Rattle.waivers.specs.Searching.{Choice}
@@ -30,7 +30,8 @@ returns-in-Ok g c =
     record {
       finds = finds_set ch R g.D.Decider.signed k c.args.sheet.now c.args.book.now (known l.self) c.in-Ok.found c.size.result l.sheet
           c.wipe_sheet.new.sheet l.book c.wipe_book.new.book c.size.ensures (sym c.in_ok-check_find.ensures) c.in-Ok.ensures.searches
-          c.wipe_sheet.ensures c.find_smallest-searched.auto.sheet c.find_smallest-searched.auto.book c.wipe_book.ensures;
+          c.wipe_sheet.ensures c.find_smallest-searched.auto.sheet c.find_smallest-searched.auto.book
+          (subst (λ (n : ℕ). c.wipe_book.new.book ≡ take n l.book ++ replicate (length l.book - n) 255) c.from.ensures c.wipe_book.ensures);
       listed = c.in-Ok.ensures.listed;
       same = c.in-Ok.ensures.same;
     }
