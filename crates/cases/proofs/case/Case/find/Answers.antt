@@ -20,18 +20,3 @@ returns-in_err-check_find g c =
       listed = listed c.args.self.now.known;
       same = same_self (g.D.Decider.reach c.args.decider.now);
     }
-
-pub returns-in-Ok : goal.returns-in-Ok
-returns-in-Ok g c =
-    let k : State = view c.args.self.now in
-    let l = c.find_smallest-searched.new in
-    let ch : Choice = g.P.Picker.choice c.args.picker.now in
-    let R : ℕ → Type 0 = λ s. g.D.Decider.reach c.args.decider.now k.task s (length c.args.sheet.now) (length c.args.book.now) in
-    record {
-      finds = finds_set ch R g.D.Decider.signed k c.args.sheet.now c.args.book.now (known l.self) c.in-Ok.found c.size.result l.sheet
-          c.wipe_sheet.new.sheet l.book c.wipe_book.new.book c.size.ensures (sym c.in_ok-check_find.ensures) c.in-Ok.ensures.searches
-          c.wipe_sheet.ensures c.find_smallest-searched.auto.sheet c.find_smallest-searched.auto.book
-          (subst (λ (n : ℕ). c.wipe_book.new.book ≡ take n l.book ++ replicate (length l.book - n) 255) c.from.ensures c.wipe_book.ensures);
-      listed = c.in-Ok.ensures.listed;
-      same = c.in-Ok.ensures.same;
-    }
