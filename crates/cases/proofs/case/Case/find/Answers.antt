@@ -1,11 +1,9 @@
-use Rattle.std.proofs.Common.{◌≡◌, ℕ, ◌-◌, ◌++◌, length, take, replicate, Err, sym, ap, ◌∙◌, subst}
+use Rattle.std.proofs.Common.{length, Err, sym, ap, ◌∙◌}
 use Rattle.std.proofs.lemmas.Result.{err_from_is_err_and}
-use Rattle.waivers.specs.Known.{known}
-use Rattle.waivers.specs.Searching.{Choice}
 use Rattle.waivers.proofs.Keep.{listed}
 use Rattle.waivers.proofs.Largest.{same_self}
 use Rattle.cases.specs.State.{State, view}
-use Rattle.cases.proofs.Finished.{finds_refused, finds_set}
+use Rattle.cases.proofs.Finished.{finds_refused}
 use Rattle.cases.proofs.case.Case.find.Goals as goal
 
 pub returns-in_err-check_find : goal.returns-in_err-check_find
