@@ -8,6 +8,7 @@ use pickers::{BranchingPicker, CountingPicker, Picker};
 use rules::{Facts, size};
 use std::alloc::{AllocError, Global};
 use std::io;
+use std::iter::repeat_with;
 
 /// A generator of pseudo-random numbers, the same on each run.
 #[derive(Drop)]
@@ -43,33 +44,21 @@ fn random_groups(heap: Global, seed: u32, count: u32) -> Result<Vec<Facts>, Allo
     ensures { IfOk result (λ v. vec_len v ≡ 64) }
 {
     let mut generator = Generator { state: seed };
-    let mut groups = Vec::new(heap);
-    for _place in 0..64u32 {
-        groups.push(generator.facts(count))?;
-    }
-    Ok(groups)
+    repeat_with(|| generator.facts(count))
+        .take(64)
+        .collect(heap)
 }
 
 /// Ten groups of three facts each, of which no two share a fact.
 fn groups_apart(heap: Global) -> Result<Vec<Facts>, AllocError>
     ensures { IfOk result (λ v. vec_len v ≡ 10) }
 {
-    let mut groups = Vec::new(heap);
-    for place in 0..10u32 {
-        groups.push(0b111 << (3 * place))?;
-    }
-    Ok(groups)
+    (0..10u32).map(|place| 0b111 << (3 * place)).collect(heap)
 }
 
 /// All the sets of four facts out of seven.
 fn fours_of_seven(heap: Global) -> Result<Vec<Facts>, AllocError> {
-    let mut groups = Vec::new(heap);
-    for set in 0..128u32 {
-        if size(set) == 4 {
-            groups.push(set)?;
-        }
-    }
-    Ok(groups)
+    (0..128u32).filter(|set| size(*set) == 4).collect(heap)
 }
 
 /// Prints what both pickers answer.

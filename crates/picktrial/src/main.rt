@@ -16,12 +16,7 @@ use std::io;
 fn meets_all(groups: &[Facts], set: Facts) -> bool
     ensures { result ≡ meets_all groups.now set }
 {
-    for group in groups {
-        if !meets(set, *group) {
-            return false;
-        }
-    }
-    true
+    groups.iter().all(|group| meets(set, *group))
 }
 
 /// The sets of a line; nothing where a word is no 32-bit number.

@@ -4,7 +4,6 @@
 
 mod examples;
 mod fault;
-mod grow;
 mod known;
 mod lose;
 

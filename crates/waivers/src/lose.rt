@@ -1,39 +1,34 @@
 //! Taking facts out of every group of a list.
 
-ghost use Rattle.std.specs.Prelude.{◌≡◌, ℕ, ◌≤◌, length, take, vec_capacity};
-ghost use Rattle.rules.specs.Listing.{listed};
+ghost use Rattle.std.specs.Prelude.{◌≡◌, ℕ, ◌≤◌, length, vec_len, vec_capacity};
 ghost use Rattle.waivers.specs.Known.{losing};
 
+use crate::known::MAX_GROUPS;
+use arrayvec::ArrayVec;
 use rules::{Facts, difference};
 
-/// Whether the set is one of the list.
-fn is_listed(set: Facts, list: &[Facts]) -> bool
-    ensures { result ≡ listed set list.now }
+/// The groups without the facts of `set`; one that equals an earlier one then is left out.
+fn without(groups: &[Facts], set: Facts) -> ArrayVec<Facts, MAX_GROUPS>
+    requires { length groups.now ≤ 64 }
+    ensures { result.items ≡ losing set groups.now }
 {
-    list.contains(&set)
-}
-
-/// Takes the facts of `set` out of each group, and moves the first of equals to the front. Says how many there are.
-fn lose_in_place(groups: &mut [Facts], set: Facts) -> usize
-    ensures within { result ≤ length groups.old }
-    ensures items { take result groups.new ≡ losing set groups.old }
-{
-    let mut count = 0;
-    for i in 0..groups.len() {
-        let group = difference(groups[i], set);
-        if !is_listed(group, &groups[0..count]) {
-            groups[count] = group;
-            count += 1;
+    let mut left = ArrayVec::new();
+    for group in groups {
+        let group = difference(*group, set);
+        if !left.contains(&group) {
+            left.push(group);
         }
     }
-    count
+    left
 }
 
 /// Takes the facts of `set` out of each group; a group that equals an earlier one then is left out.
 pub(crate) fn lose(groups: &mut Vec<Facts>, set: Facts)
+    requires { vec_len groups.old ≤ 64 }
     ensures items { groups.new.items ≡ losing set groups.old.items }
     ensures room { vec_capacity groups.new ≡ vec_capacity groups.old }
 {
-    let count = lose_in_place(groups.as_mut_slice(), set);
-    groups.truncate(count);
+    let left = without(groups, set);
+    groups.truncate(left.len());
+    groups.copy_from_slice(&left);
 }

@@ -1,0 +1,14 @@
+use Rattle.std.proofs.Common.{[], take, ap, arith}
+use Rattle.std.proofs.lemmas.Grind.{common_steps}
+use Rattle.waivers.proofs.Losing.{listed_is, losing_few}
+use Rattle.waivers.proofs.lose.without.Goals as goal
+
+pub push-requires : goal.push-requires
+push-requires c =
+    let few = losing_few c.args.set [] (take c.loop-group.group-index c.args.groups.now) in
+    grind (arith, common_steps)
+
+pub loop-group-preserved : goal.loop-group-preserved
+loop-group-preserved c =
+    let is = listed_is c.difference-group.result c.loop-group.left.items in
+    grind (arith, common_steps)
