@@ -4,21 +4,28 @@ use Rattle.frames.specs.declared.frame.Frame.{Frame}
 use Rattle.frames.specs.declared.frame.Frame.TheVariants.{Open, Put, Grant, Lapse, Order, Cancel, Withdraw, Carry, Find, DrawAndSign}
 use Rattle.frames.specs.declared.frame.FrameFault.{FrameFault}
 use Rattle.frames.specs.declared.frame.FrameFault.TheVariants.{Malformed, UnknownKind, WrongLength}
+use Rattle.frames.specs.declared.kind.Kind.{Kind}
+use Rattle.frames.specs.declared.kind.Kind.TheVariants as kinds
 use Rattle.frames.specs.Digits.{Spells}
+use Rattle.frames.specs.Kinds.{kind_byte}
 use Rattle.frames.specs.Numbers.{word_bytes}
 
--- the kind of a frame
+-- what kind of frame it is
+abbrev pub frame_kind : Frame → Kind
+frame_kind (Open number n standing order) = kinds.Open
+frame_kind (Put place needs gives takes) = kinds.Put
+frame_kind (Grant facts) = kinds.Grant
+frame_kind (Lapse facts) = kinds.Lapse
+frame_kind (Order facts) = kinds.Order
+frame_kind (Cancel facts) = kinds.Cancel
+frame_kind (Withdraw place) = kinds.Withdraw
+frame_kind (Carry place) = kinds.Carry
+frame_kind Find = kinds.Find
+frame_kind DrawAndSign = kinds.DrawAndSign
+
+-- the byte of a frame's kind
 abbrev pub kind_of : Frame → ℕ
-kind_of (Open number n standing order) = 1
-kind_of (Put place needs gives takes) = 2
-kind_of (Grant facts) = 3
-kind_of (Lapse facts) = 4
-kind_of (Order facts) = 5
-kind_of (Cancel facts) = 6
-kind_of (Withdraw place) = 7
-kind_of (Carry place) = 8
-kind_of Find = 9
-kind_of DrawAndSign = 10
+kind_of f = kind_byte (frame_kind f)
 
 -- the bytes that follow the kind
 abbrev pub field_bytes : Frame → List ℕ
@@ -40,14 +47,14 @@ bytes_of f = kind_of f ∷ field_bytes f
 -- the number of each fault
 abbrev pub fault_number : FrameFault → ℕ
 fault_number Malformed = 1
-fault_number (UnknownKind kind) = 2
-fault_number (WrongLength kind) = 3
+fault_number (UnknownKind byte) = 2
+fault_number (WrongLength _) = 3
 
 -- the kind that a report gives with each fault
 abbrev pub fault_kind : FrameFault → ℕ
 fault_kind Malformed = 0
-fault_kind (UnknownKind kind) = kind
-fault_kind (WrongLength kind) = kind
+fault_kind (UnknownKind byte) = byte
+fault_kind (WrongLength kind) = kind_byte kind
 
 -- no frame of this kind has this many bytes
 abbrev pub NoneOfLength : ℕ → ℕ → Type 0
@@ -61,7 +68,7 @@ Means bytes (Err Malformed) = bytes ≡ []
 Means bytes (Err (UnknownKind kind)) =
     ((rest : List ℕ) × (kind ∷ rest ≡ bytes)) × ((f : Frame) → kind_of f ≢ kind)
 Means bytes (Err (WrongLength kind)) =
-    ((rest : List ℕ) × (kind ∷ rest ≡ bytes)) × ((f : Frame) × (kind_of f ≡ kind)) × NoneOfLength kind (length bytes)
+    ((rest : List ℕ) × (kind_byte kind ∷ rest ≡ bytes)) × ((f : Frame) × (frame_kind f ≡ kind)) × NoneOfLength (kind_byte kind) (length bytes)
 
 -- what a line says: what the bytes say that it spells; it is malformed where it spells no byte at all
 abbrev pub Reads : List ℕ → Result Frame FrameFault → Type 0
