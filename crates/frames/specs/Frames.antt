@@ -1,5 +1,6 @@
 -- Frames: the bytes of each, and what a line that holds one, or none, is read as.
-use Rattle.std.specs.Prelude.{◌≡◌, ℕ, ◌≤◌, ◌≢◌, List, [], ◌∷◌, ◌++◌, length, take, Ok, Err, Result}
+use Rattle.std.specs.Prelude.{◌≡◌, ℕ, ◌≢◌, List, [], ◌∷◌, ◌++◌, length, take, Ok, Err, Result}
+use Rattle.frames.specs.declared.frame.TheConstants.{ROOM}
 use Rattle.frames.specs.declared.frame.Frame.{Frame}
 use Rattle.frames.specs.declared.frame.Frame.TheVariants.{Open, Put, Grant, Lapse, Order, Cancel, Withdraw, Carry, Find, DrawAndSign}
 use Rattle.frames.specs.declared.frame.FrameFault.{FrameFault}
@@ -77,7 +78,6 @@ Reads line (Err Malformed) = (bytes : List ℕ) → Spells line bytes → bytes 
 Reads line (Err (UnknownKind kind)) = (bytes : List ℕ) × Spells line bytes × Means bytes (Err (UnknownKind kind))
 Reads line (Err (WrongLength kind)) = (bytes : List ℕ) × Spells line bytes × Means bytes (Err (WrongLength kind))
 
--- a buffer holds the bytes that a line spells, as far as it has room for them
-abbrev pub Decoded : List ℕ → List ℕ → ℕ → Type 0
-Decoded line buffer count =
-    (bytes : List ℕ) × Spells line bytes × (count ≤ length buffer) × (take count buffer ≡ take (length buffer) bytes)
+-- the first bytes that a line spells, as many as there is room for
+abbrev pub Decoded : List ℕ → List ℕ → Type 0
+Decoded line front = (bytes : List ℕ) × Spells line bytes × (front ≡ take ROOM bytes)

@@ -10,6 +10,7 @@ ghost use Rattle.frames.specs.Numbers.{word_bytes};
 use crate::digits::digit;
 use crate::kind::{Kind, UnknownKind};
 use crate::numbers::word;
+use arrayvec::ArrayVec;
 
 /// What a line asks of the case.
 #[derive(Clone, Copy, PartialEq, Eq, Debug)]
@@ -83,6 +84,7 @@ impl FrameFault {
     pub fn number(&self) -> u8
         ensures { result ≡ fault_number self.now }
     {
+        // Kept: the one place of the report's numbers; a variant that holds a value has no discriminant to cast.
         match self {
             FrameFault::Malformed => 1,
             FrameFault::UnknownKind(_) => 2,
@@ -191,35 +193,30 @@ fn pair(high: u8, low: u8) -> Option<u8>
     Some(digit(high)? * 16 + digit(low)?)
 }
 
-/// Writes the bytes that a line spells into the buffer, as far as it has room for them, and says how many it wrote.
-fn decode(line: &[u8], buffer: &mut [u8]) -> Option<usize>
-    ensures { MatchOption result ((bytes : List ℕ) → Spells line.now bytes → ⊥) (λ count. Decoded line.now buffer.new count) }
-{
-    if line.len() % 2 != 0 {
-        return None;
-    }
-    let count = line.len() / 2;
-    for i in 0..count {
-        let Some(byte) = pair(line[2 * i], line[2 * i + 1]) else {
-            return None;
-        };
-        if i < buffer.len() {
-            buffer[i] = byte;
-        }
-    }
-    Some(count.min(buffer.len()))
-}
-
 /// The bytes of the longest frame and one more: a line that fills this much is too long for every kind.
 const ROOM: usize = 15;
+
+/// The first bytes that a line spells. Each digit of the line is read, and the bytes past the room are left out.
+fn decode(line: &[u8]) -> Option<ArrayVec<u8, ROOM>>
+    ensures { MatchOption result ((bytes : List ℕ) → Spells line.now bytes → ⊥) (λ front. Decoded line.now front.items) }
+{
+    let (pairs, []) = line.as_chunks::<2>() else {
+        return None;
+    };
+    let mut bytes = ArrayVec::new();
+    for [high, low] in pairs {
+        let byte = pair(*high, *low)?;
+        if !bytes.is_full() {
+            bytes.push(byte);
+        }
+    }
+    Some(bytes)
+}
 
 /// What a line says, or why it says nothing. A line has any length and any bytes.
 pub fn read_frame(line: &[u8]) -> Result<Frame, FrameFault>
     ensures { Reads line.now result }
 {
-    let mut buffer = [0; ROOM];
-    match decode(line, &mut buffer) {
-        Some(count) => frame_of(&buffer[0..count]),
-        None => Err(FrameFault::Malformed),
-    }
+    let bytes = decode(line).ok_or(FrameFault::Malformed)?;
+    frame_of(&bytes)
 }

@@ -17,6 +17,7 @@ pub enum Added {
 }
 
 /// What the report line of a refused frame says.
+// Kept: the numbers as they stand in the line; an enum for one would ask more of who writes a line.
 #[derive(Clone, Copy, PartialEq, Eq, Debug)]
 pub struct Refused {
     /// The kind of the frame, or 0 where none could be read.
@@ -61,6 +62,7 @@ fn write_line(head: &[u8], tail: &[u8], buffer: &mut [u8]) -> Option<usize>
 pub fn write_accepted(kind: u8, buffer: &mut [u8]) -> Option<usize>
     ensures { Printed (accepted_bytes kind) buffer.old buffer.new result }
 {
+    // Kept: the kind as a byte, since Kind would ask more of the caller.
     write_line(&[kind, 0], &[], buffer)
 }
 
@@ -89,5 +91,9 @@ pub fn write_found(facts: u32, size: u8, places: &[u8], buffer: &mut [u8]) -> Op
     let count = u16::try_from(places.len()).ok()?;
     let [a, b, c, d] = facts.to_be_bytes();
     let [high, low] = count.to_be_bytes();
-    write_line(&[u8::from(Kind::Find), 0, a, b, c, d, size, high, low], places, buffer)
+    write_line(
+        &[u8::from(Kind::Find), 0, a, b, c, d, size, high, low],
+        places,
+        buffer,
+    )
 }
