@@ -7,6 +7,6 @@ ghost use Rattle.frames.specs.Numbers.{word_bytes};
 pub(crate) fn word(bytes: &[u8]) -> Option<(u32, &[u8])>
     ensures { MatchOption result (length bytes.now < 4) (λ x. word_bytes x.0 ++ x.1.now ≡ bytes.now) }
 {
-    let (word, rest) = bytes.split_first_chunk()?;
+    let (word, rest) = bytes.split_first_chunk::<4>()?;
     Some((u32::from_be_bytes(*word), rest))
 }
