@@ -6,4 +6,4 @@ pub returns : goal.returns
 returns c =
     let cut = c.in_ok-word.ensures.cases in
     word_front c.args.bytes.now c.in_ok-word.word.now c.in_ok-word.rest.now c.from_be_bytes.result cut.0 cut.1
-    (search rules) (λ i. search rules) (search rules) c.from_be_bytes.ensures
+    (search rules) (λ i. search rules) (search rules) (search rules)
