@@ -1,5 +1,7 @@
 -- The faults of find by number and layer; a fault of a layer below keeps its own.
 use Rattle.std.specs.Prelude.{ℕ}
+use Rattle.rules.specs.declared.layer.Layer.{Layer}
+use Rattle.rules.specs.declared.layer.Layer.TheVariants as layers
 use Rattle.rules.specs.Refusals as refusals
 use Rattle.deciders.specs.Answers.{reported}
 use Rattle.waivers.specs.declared.fault.FinderFault.{FinderFault}
@@ -14,11 +16,11 @@ number NoWaiver = 20
 number (Decider e) = (reported e).0
 number (ListFull s) = 22
 
--- the layer of each fault: 2 the case, 3 the finder, 4 the decider
-abbrev pub layer : FinderFault → ℕ
-layer (Case r) = 2
-layer SheetSize = 3
-layer BookSize = 3
-layer NoWaiver = 3
-layer (Decider e) = (reported e).1
-layer (ListFull s) = 3
+-- the layer of each fault
+abbrev pub layer : FinderFault → Layer
+layer (Case r) = layers.Case
+layer SheetSize = layers.Finder
+layer BookSize = layers.Finder
+layer NoWaiver = layers.Finder
+layer (Decider e) = layers.Decider
+layer (ListFull s) = layers.Finder

@@ -5,7 +5,7 @@ ghost use Rattle.waivers.specs.declared.fault.FinderFault.TheVariants.{Case as O
 ghost use Rattle.waivers.specs.Faults.{number as number_of, layer as layer_of};
 
 use deciders::DeciderFault;
-use rules::{Facts, Refusal};
+use rules::{Facts, Layer, Refusal};
 
 /// Why find ends without a set. A fault of a layer below is kept whole.
 #[derive(Clone, Copy, PartialEq, Eq, Debug)]
@@ -40,13 +40,13 @@ impl FinderFault {
     }
 
     /// The layer that the fault comes from.
-    pub fn layer(self) -> u8
+    pub fn layer(self) -> Layer
         ensures { result ≡ layer_of self }
     {
         match self {
-            FinderFault::Case(_) => 2,
-            FinderFault::Decider(fault) => u8::from(fault.layer()),
-            _ => 3,
+            FinderFault::Case(_) => Layer::Case,
+            FinderFault::Decider(fault) => fault.layer(),
+            _ => Layer::Finder,
         }
     }
 }
