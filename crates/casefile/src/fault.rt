@@ -6,12 +6,14 @@ ghost use Rattle.casefile.specs.Faults.{number as number_of, layer as layer_of, 
 
 use deciders::DeciderFault;
 use frames::{Added, FrameFault};
-use rules::Refusal;
+use rules::{Layer, Refusal};
 use waivers::FinderFault;
 
 /// Why a line is refused. The fault of a layer below is kept whole.
-#[derive(Clone, Copy)]
+#[derive(Clone, Copy, PartialEq, Eq, Debug)]
 pub enum LineFault {
+    /// The line is one of a text that is too long to be read.
+    TextTooLong,
     /// The line holds no frame that is served.
     Frame(FrameFault),
     /// The case refuses the call.
@@ -26,36 +28,37 @@ impl LineFault {
         ensures { result ≡ number_of self.now }
     {
         match self {
+            LineFault::TextTooLong => 19,
             LineFault::Frame(fault) => fault.number(),
             LineFault::Case(refusal) => refusal.number(),
             LineFault::Finder(fault) => fault.number(),
         }
     }
 
-    /// The layer that the fault comes from: 1 the reader, 2 the case, 3 the finder, 4 the decider.
-    pub fn layer(&self) -> u8
+    /// The layer that the fault comes from.
+    pub fn layer(&self) -> Layer
         ensures { result ≡ layer_of self.now }
     {
         match self {
-            LineFault::Frame(_) => 1,
-            LineFault::Case(_) => 2,
+            LineFault::TextTooLong | LineFault::Frame(_) => Layer::Reader,
+            LineFault::Case(_) => Layer::Case,
             LineFault::Finder(fault) => fault.layer(),
         }
     }
 
     /// What the fault adds to its report line.
-    pub fn added(&self) -> Added
+    pub fn added(&self) -> Option<Added>
         ensures { result ≡ added_of self.now }
     {
         let LineFault::Finder(fault) = self else {
-            return Added::Nothing;
+            return None;
         };
         match fault {
-            FinderFault::Decider(DeciderFault::BeyondReach { set, mark }) => Added::SetAndMark(
-                *set, *mark,
-            ),
-            FinderFault::ListFull(set) => Added::Set(*set),
-            _ => Added::Nothing,
+            FinderFault::Decider(DeciderFault::BeyondReach { set, mark }) => {
+                Some(Added::SetAndMark(*set, *mark))
+            }
+            FinderFault::ListFull(set) => Some(Added::Set(*set)),
+            _ => None,
         }
     }
 }

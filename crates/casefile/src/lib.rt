@@ -7,5 +7,5 @@ mod reading;
 mod serving;
 
 pub use fault::LineFault;
-pub use reading::{MAX_TEXT, MIN_REPORT, Progress, Reading};
+pub use reading::{MAX_TEXT, MIN_REPORT, ReadFault, Reading};
 pub use serving::{Reply, serve};

@@ -12,7 +12,7 @@ use pickers::Picker;
 use rules::{Facts, Refusal, Step};
 
 /// What an accepted frame answers.
-#[derive(Clone, Copy)]
+#[derive(Clone, Copy, PartialEq, Eq, Debug)]
 pub enum Reply {
     /// The call was made.
     Done,

@@ -4,7 +4,7 @@
 
 ghost use Rattle.std.specs.Prelude.{◌≡◌, take, IfOk, IfSome};
 
-use casefile::{MAX_TEXT, MIN_REPORT, Progress, Reading};
+use casefile::{MAX_TEXT, MIN_REPORT, ReadFault, Reading};
 use cases::Case;
 use deciders::{Forward, MAX_ROWS, Row, Screen};
 use pickers::CountingPicker;
@@ -47,12 +47,12 @@ pub fn serve_input(rt: &HostRuntime) -> anyhow::Result<()> {
             &mut buffer,
         );
         match progress {
-            Progress::Reported(length) => output.write_all(&buffer[0..length])?,
-            Progress::TextTooLong(length) => {
+            Ok(Some(length)) => output.write_all(&buffer[0..length])?,
+            Err(ReadFault::TextTooLong(length)) => {
                 output.write_all(&buffer[0..length])?;
                 break;
             }
-            Progress::Past | Progress::BufferTooShort => break,
+            Ok(None) | Err(ReadFault::BufferTooShort) => break,
         }
     }
     output.flush()?;

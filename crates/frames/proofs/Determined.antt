@@ -4,37 +4,64 @@ use Rattle.frames.specs.declared.frame.Frame.{Frame}
 use Rattle.frames.specs.declared.frame.Frame.TheVariants.{Open, Put, Grant, Lapse, Order, Cancel, Withdraw, Carry, Find, DrawAndSign}
 use Rattle.frames.specs.declared.frame.FrameFault.{FrameFault}
 use Rattle.frames.specs.declared.frame.FrameFault.TheVariants.{Malformed, UnknownKind, WrongLength}
+use Rattle.frames.specs.declared.kind.Kind.{Kind}
+use Rattle.frames.specs.declared.kind.Kind.TheVariants as kinds
 use Rattle.frames.specs.Digits.{Spells}
 use Rattle.frames.specs.Frames.{kind_of, field_bytes, bytes_of, NoneOfLength, Means, Reads}
+use Rattle.frames.specs.Kinds.{kind_byte}
+use Rattle.frames.specs.Numbers.{number_of}
 use Rattle.frames.proofs.Spelling.{spells_unique}
-use Rattle.frames.proofs.Words.{word_of, word_of_bytes}
+use Rattle.frames.proofs.Words.{number_of-word_bytes}
 
 word_at : List ℕ → ℕ → ℕ
-word_at s i = word_of (get_or s i 0) (get_or s (i + 1) 0) (get_or s (i + 2) 0) (get_or s (i + 3) 0)
+word_at s i = number_of (get_or s i 0 ∷ get_or s (i + 1) 0 ∷ get_or s (i + 2) 0 ∷ get_or s (i + 3) 0 ∷ [])
 
--- the frame with these bytes, where there is one
-frame_of : List ℕ → Frame
+-- the kind that a byte stands for, where there is one
+kind_of_byte : ℕ → Kind
+kind_of_byte byte =
+    cond (eqb byte 1) kinds.Open
+    (cond (eqb byte 2) kinds.Put
+    (cond (eqb byte 3) kinds.Grant
+    (cond (eqb byte 4) kinds.Lapse
+    (cond (eqb byte 5) kinds.Order
+    (cond (eqb byte 6) kinds.Cancel
+    (cond (eqb byte 7) kinds.Withdraw
+    (cond (eqb byte 8) kinds.Carry
+    (cond (eqb byte 9) kinds.Find kinds.DrawAndSign))))))))
+
+kind_of_kind_byte : (kind : Kind) → kind_of_byte (kind_byte kind) ≡ kind
+unfolding kind_of_byte
+kind_of_kind_byte kinds.Open = refl
+kind_of_kind_byte _ = refl
+
+one_kind : (j k : Kind) → kind_byte j ≡ kind_byte k → j ≡ k
+one_kind j k e = sym (kind_of_kind_byte j) ∙ ap kind_of_byte e ∙ kind_of_kind_byte k
+
+-- the frame of a kind with these bytes, where there is one
+frame_of_kind : Kind → List ℕ → Frame
 unfolding word_at
-frame_of s =
-    let kind : ℕ = get_or s 0 0 in
-    cond (eqb kind 1) (Open (word_at s 1) (get_or s 5 0) (word_at s 6) (word_at s 10))
-    (cond (eqb kind 2) (Put (get_or s 1 0) (word_at s 2) (word_at s 6) (word_at s 10))
-    (cond (eqb kind 3) (Grant (word_at s 1))
-    (cond (eqb kind 4) (Lapse (word_at s 1))
-    (cond (eqb kind 5) (Order (word_at s 1))
-    (cond (eqb kind 6) (Cancel (word_at s 1))
-    (cond (eqb kind 7) (Withdraw (get_or s 1 0))
-    (cond (eqb kind 8) (Carry (get_or s 1 0))
-    (cond (eqb kind 9) Find DrawAndSign))))))))
+frame_of_kind kinds.Open s = Open (word_at s 1) (get_or s 5 0) (word_at s 6) (word_at s 10)
+frame_of_kind kinds.Put s = Put (get_or s 1 0) (word_at s 2) (word_at s 6) (word_at s 10)
+frame_of_kind kinds.Grant s = Grant (word_at s 1)
+frame_of_kind kinds.Lapse s = Lapse (word_at s 1)
+frame_of_kind kinds.Order s = Order (word_at s 1)
+frame_of_kind kinds.Cancel s = Cancel (word_at s 1)
+frame_of_kind kinds.Withdraw s = Withdraw (get_or s 1 0)
+frame_of_kind kinds.Carry s = Carry (get_or s 1 0)
+frame_of_kind kinds.Find s = Find
+frame_of_kind kinds.DrawAndSign s = DrawAndSign
+
+frame_of : List ℕ → Frame
+frame_of s = frame_of_kind (kind_of_byte (get_or s 0 0)) s
 
 frame_of_bytes : (f : Frame) → frame_of (bytes_of f) ≡ f
-unfolding frame_of word_at
-frame_of_bytes (Open number n standing order) = cc (word_of_bytes number, word_of_bytes standing, word_of_bytes order)
-frame_of_bytes (Put place needs gives takes) = cc (word_of_bytes needs, word_of_bytes gives, word_of_bytes takes)
-frame_of_bytes (Grant facts) = ap Grant (word_of_bytes facts)
-frame_of_bytes (Lapse facts) = ap Lapse (word_of_bytes facts)
-frame_of_bytes (Order facts) = ap Order (word_of_bytes facts)
-frame_of_bytes (Cancel facts) = ap Cancel (word_of_bytes facts)
+unfolding frame_of frame_of_kind kind_of_byte word_at
+frame_of_bytes (Open number n standing order) = cc (number_of-word_bytes number, number_of-word_bytes standing, number_of-word_bytes order)
+frame_of_bytes (Put place needs gives takes) = cc (number_of-word_bytes needs, number_of-word_bytes gives, number_of-word_bytes takes)
+frame_of_bytes (Grant facts) = ap Grant (number_of-word_bytes facts)
+frame_of_bytes (Lapse facts) = ap Lapse (number_of-word_bytes facts)
+frame_of_bytes (Order facts) = ap Order (number_of-word_bytes facts)
+frame_of_bytes (Cancel facts) = ap Cancel (number_of-word_bytes facts)
 frame_of_bytes (Withdraw place) = refl
 frame_of_bytes (Carry place) = refl
 frame_of_bytes Find = refl
@@ -57,14 +84,14 @@ one_meaning bytes (Err (UnknownKind j)) (Err Malformed) ((rest, p), none) q = ab
 one_meaning bytes (Err (UnknownKind j)) (Err (UnknownKind k)) ((rest, p), none) ((rest2, q), none2) =
     let same = p ∙ sym q in let kinds : j ≡ k = cc in cc
 one_meaning bytes (Err (UnknownKind j)) (Err (WrongLength k)) ((rest, p), none) ((rest2, q), some, other) =
-    absurd (let same = p ∙ sym q in let kinds : j ≡ k = cc in none some.0 (some.1 ∙ sym kinds))
+    absurd (let same = p ∙ sym q in let bytes : j ≡ kind_byte k = cc in none some.0 (ap kind_byte some.1 ∙ sym bytes))
 one_meaning bytes (Err (WrongLength j)) (Ok g) ((rest, p), some, other) q =
     absurd (other g (let same = q ∙ sym p in cc) (ap length q))
 one_meaning bytes (Err (WrongLength j)) (Err Malformed) ((rest, p), some, other) q = absurd (let z = ap length (p ∙ q) in omega (arith, z))
 one_meaning bytes (Err (WrongLength j)) (Err (UnknownKind k)) ((rest, p), some, other) ((rest2, q), none) =
-    absurd (let same = p ∙ sym q in let kinds : j ≡ k = cc in none some.0 (some.1 ∙ kinds))
+    absurd (let same = p ∙ sym q in let bytes : kind_byte j ≡ k = cc in none some.0 (ap kind_byte some.1 ∙ bytes))
 one_meaning bytes (Err (WrongLength j)) (Err (WrongLength k)) ((rest, p), some, other) ((rest2, q), some2, other2) =
-    let same = p ∙ sym q in let kinds : j ≡ k = cc in cc
+    let same = p ∙ sym q in let bytes : kind_byte j ≡ kind_byte k = cc in ap (λ (kind : Kind). Err (WrongLength kind)) (one_kind j k bytes)
 
 -- what a line says, by the bytes that it spells: none, or those that say it
 data Said (line : List ℕ) : Result Frame FrameFault → Type 0 where
@@ -77,8 +104,8 @@ said line (Err Malformed) p = unread p
 said line (Err (UnknownKind k)) (bytes, p, ((rest, e), none)) =
     spelled k rest (subst (λ (bs : List ℕ). Spells line bs) (sym e) p) ((rest, refl), none)
 said line (Err (WrongLength k)) (bytes, p, ((rest, e), some, other)) =
-    spelled k rest (subst (λ (bs : List ℕ). Spells line bs) (sym e) p)
-    ((rest, refl), some, subst (λ (bs : List ℕ). NoneOfLength k (length bs)) (sym e) other)
+    spelled (kind_byte k) rest (subst (λ (bs : List ℕ). Spells line bs) (sym e) p)
+    ((rest, refl), some, subst (λ (bs : List ℕ). NoneOfLength (kind_byte k) (length bs)) (sym e) other)
 
 -- two readings of a line are one
 agree : (line : List ℕ) (r s : Result Frame FrameFault) → Said line r → Said line s → r ≡ s

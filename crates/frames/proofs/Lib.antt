@@ -6,4 +6,3 @@ pub mod Decoding
 pub mod Determined
 pub mod Cuts
 pub mod Overlays
-pub mod Contents

@@ -1,24 +1,32 @@
 -- Frames: the bytes of each, and what a line that holds one, or none, is read as.
-use Rattle.std.specs.Prelude.{◌≡◌, ℕ, ◌≤◌, ◌≢◌, List, [], ◌∷◌, ◌++◌, length, take, Ok, Err, Result}
+use Rattle.std.specs.Prelude.{◌≡◌, ℕ, ◌≢◌, List, [], ◌∷◌, ◌++◌, length, take, Ok, Err, Result}
+use Rattle.frames.specs.declared.frame.TheConstants.{ROOM}
 use Rattle.frames.specs.declared.frame.Frame.{Frame}
 use Rattle.frames.specs.declared.frame.Frame.TheVariants.{Open, Put, Grant, Lapse, Order, Cancel, Withdraw, Carry, Find, DrawAndSign}
 use Rattle.frames.specs.declared.frame.FrameFault.{FrameFault}
 use Rattle.frames.specs.declared.frame.FrameFault.TheVariants.{Malformed, UnknownKind, WrongLength}
+use Rattle.frames.specs.declared.kind.Kind.{Kind}
+use Rattle.frames.specs.declared.kind.Kind.TheVariants as kinds
 use Rattle.frames.specs.Digits.{Spells}
+use Rattle.frames.specs.Kinds.{kind_byte}
 use Rattle.frames.specs.Numbers.{word_bytes}
 
--- the kind of a frame
+-- what kind of frame it is
+abbrev pub frame_kind : Frame → Kind
+frame_kind (Open number n standing order) = kinds.Open
+frame_kind (Put place needs gives takes) = kinds.Put
+frame_kind (Grant facts) = kinds.Grant
+frame_kind (Lapse facts) = kinds.Lapse
+frame_kind (Order facts) = kinds.Order
+frame_kind (Cancel facts) = kinds.Cancel
+frame_kind (Withdraw place) = kinds.Withdraw
+frame_kind (Carry place) = kinds.Carry
+frame_kind Find = kinds.Find
+frame_kind DrawAndSign = kinds.DrawAndSign
+
+-- the byte of a frame's kind
 abbrev pub kind_of : Frame → ℕ
-kind_of (Open number n standing order) = 1
-kind_of (Put place needs gives takes) = 2
-kind_of (Grant facts) = 3
-kind_of (Lapse facts) = 4
-kind_of (Order facts) = 5
-kind_of (Cancel facts) = 6
-kind_of (Withdraw place) = 7
-kind_of (Carry place) = 8
-kind_of Find = 9
-kind_of DrawAndSign = 10
+kind_of f = kind_byte (frame_kind f)
 
 -- the bytes that follow the kind
 abbrev pub field_bytes : Frame → List ℕ
@@ -40,14 +48,14 @@ bytes_of f = kind_of f ∷ field_bytes f
 -- the number of each fault
 abbrev pub fault_number : FrameFault → ℕ
 fault_number Malformed = 1
-fault_number (UnknownKind kind) = 2
-fault_number (WrongLength kind) = 3
+fault_number (UnknownKind byte) = 2
+fault_number (WrongLength _) = 3
 
 -- the kind that a report gives with each fault
 abbrev pub fault_kind : FrameFault → ℕ
 fault_kind Malformed = 0
-fault_kind (UnknownKind kind) = kind
-fault_kind (WrongLength kind) = kind
+fault_kind (UnknownKind byte) = byte
+fault_kind (WrongLength kind) = kind_byte kind
 
 -- no frame of this kind has this many bytes
 abbrev pub NoneOfLength : ℕ → ℕ → Type 0
@@ -61,7 +69,7 @@ Means bytes (Err Malformed) = bytes ≡ []
 Means bytes (Err (UnknownKind kind)) =
     ((rest : List ℕ) × (kind ∷ rest ≡ bytes)) × ((f : Frame) → kind_of f ≢ kind)
 Means bytes (Err (WrongLength kind)) =
-    ((rest : List ℕ) × (kind ∷ rest ≡ bytes)) × ((f : Frame) × (kind_of f ≡ kind)) × NoneOfLength kind (length bytes)
+    ((rest : List ℕ) × (kind_byte kind ∷ rest ≡ bytes)) × ((f : Frame) × (frame_kind f ≡ kind)) × NoneOfLength (kind_byte kind) (length bytes)
 
 -- what a line says: what the bytes say that it spells; it is malformed where it spells no byte at all
 abbrev pub Reads : List ℕ → Result Frame FrameFault → Type 0
@@ -70,7 +78,6 @@ Reads line (Err Malformed) = (bytes : List ℕ) → Spells line bytes → bytes 
 Reads line (Err (UnknownKind kind)) = (bytes : List ℕ) × Spells line bytes × Means bytes (Err (UnknownKind kind))
 Reads line (Err (WrongLength kind)) = (bytes : List ℕ) × Spells line bytes × Means bytes (Err (WrongLength kind))
 
--- a buffer holds the bytes that a line spells, as far as it has room for them
-abbrev pub Decoded : List ℕ → List ℕ → ℕ → Type 0
-Decoded line buffer count =
-    (bytes : List ℕ) × Spells line bytes × (count ≤ length buffer) × (take count buffer ≡ take (length buffer) bytes)
+-- the first bytes that a line spells, as many as there is room for
+abbrev pub Decoded : List ℕ → List ℕ → Type 0
+Decoded line front = (bytes : List ℕ) × Spells line bytes × (front ≡ take ROOM bytes)

@@ -1,5 +1,6 @@
 -- What case files and report lines mean, byte by byte.
 pub mod Digits
+pub mod Kinds
 pub mod Numbers
 pub mod Frames
 pub mod Texts

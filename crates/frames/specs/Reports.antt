@@ -1,7 +1,7 @@
 -- Report lines: the bytes of each, and what the report buffer then holds.
-use Rattle.std.specs.Prelude.{◌≡◌, ℕ, ◌+◌, ◌<◌, ◌≤◌, List, [], ◌∷◌, ◌++◌, length, take, drop, Some, None, Option}
+use Rattle.std.specs.Prelude.{◌≡◌, ℕ, ◌<◌, ◌≤◌, List, [], ◌∷◌, ◌++◌, length, drop, Some, None, Option}
 use Rattle.frames.specs.declared.report.Added.{Added}
-use Rattle.frames.specs.declared.report.Added.TheVariants.{Nothing, Set, SetAndMark}
+use Rattle.frames.specs.declared.report.Added.TheVariants.{Set, SetAndMark}
 use Rattle.frames.specs.declared.report.Refused.{Refused}
 use Rattle.frames.specs.Digits.{written}
 use Rattle.frames.specs.Numbers.{word_bytes, half_bytes}
@@ -15,10 +15,10 @@ abbrev pub found_bytes : ℕ → ℕ → List ℕ → List ℕ
 found_bytes facts size places = accepted_bytes 9 ++ (word_bytes facts ++ (size ∷ (half_bytes (length places) ++ places)))
 
 -- what a refusal adds to its line
-abbrev pub added_bytes : Added → List ℕ
-added_bytes Nothing = []
-added_bytes (Set facts) = word_bytes facts
-added_bytes (SetAndMark facts mark) = word_bytes facts ++ mark ∷ []
+abbrev pub added_bytes : Option Added → List ℕ
+added_bytes None = []
+added_bytes (Some (Set facts)) = word_bytes facts
+added_bytes (Some (SetAndMark facts mark)) = word_bytes facts ++ mark ∷ []
 
 -- a refused frame: its kind, the refusal, its layer, the number of the line, and what the refusal adds
 abbrev pub refused_bytes : Refused → List ℕ
@@ -27,11 +27,6 @@ refused_bytes r = r.kind ∷ r.refusal ∷ r.layer ∷ (half_bytes r.line ++ add
 -- a report line: the digits of its bytes in capitals, and a line feed
 abbrev pub report_line : List ℕ → List ℕ
 report_line bytes = written bytes ++ 10 ∷ []
-
--- what a buffer holds after a write at a position: the rest stays
-abbrev pub overlaid : List ℕ → ℕ → List ℕ → List ℕ
-overlaid buffer position characters =
-    take position buffer ++ (characters ++ drop (position + length characters) buffer)
 
 -- a report line stands at the front of the buffer, and its length is answered; or the buffer is too short for it, and stays
 abbrev pub Printed : List ℕ → List ℕ → List ℕ → Option ℕ → Type 0

@@ -1,32 +1,16 @@
 //! Frames: what one line of a case file says, and why a line may say nothing.
 
 ghost use Rattle.std.specs.Prelude.{◌≡◌, ℕ, ◌<◌, false, T, ◌≢◌, List, [], ◌∷◌, length, MatchOption};
+ghost use Rattle.frames.specs.declared.frame.FrameFault.TheVariants.{UnknownKind as OfUnknownKind};
 ghost use Rattle.frames.specs.Digits.{Pair, Spells};
-ghost use Rattle.frames.specs.Frames.{kind_of, bytes_of, fault_kind, fault_number, NoneOfLength, Means, Reads, Decoded};
+ghost use Rattle.frames.specs.Frames.{frame_kind, bytes_of, fault_kind, fault_number, NoneOfLength, Means, Reads, Decoded};
+ghost use Rattle.frames.specs.Kinds.{kind_byte};
 ghost use Rattle.frames.specs.Numbers.{word_bytes};
 
 use crate::digits::digit;
+use crate::kind::{Kind, UnknownKind};
 use crate::numbers::word;
-
-const OPEN: u8 = 0x01;
-
-const PUT: u8 = 0x02;
-
-const GRANT: u8 = 0x03;
-
-const LAPSE: u8 = 0x04;
-
-const ORDER: u8 = 0x05;
-
-const CANCEL: u8 = 0x06;
-
-const WITHDRAW: u8 = 0x07;
-
-const CARRY: u8 = 0x08;
-
-pub(crate) const FIND: u8 = 0x09;
-
-const DRAW_AND_SIGN: u8 = 0x0A;
+use arrayvec::ArrayVec;
 
 /// What a line asks of the case.
 #[derive(Clone, Copy, PartialEq, Eq, Debug)]
@@ -60,26 +44,26 @@ pub enum FrameFault {
     Malformed,
     /// The first byte is no kind.
     UnknownKind(u8),
-    /// The first byte is a kind, and the line has another length than its frames.
-    WrongLength(u8),
+    /// The line has another length than the frames of its kind.
+    WrongLength(Kind),
 }
 
 impl Frame {
-    /// The first byte of the frame.
-    pub fn kind(&self) -> u8
-        ensures { result ≡ kind_of self.now }
+    /// What kind of frame it is.
+    pub fn kind(&self) -> Kind
+        ensures { result ≡ frame_kind self.now }
     {
         match self {
-            Frame::Open { .. } => OPEN,
-            Frame::Put { .. } => PUT,
-            Frame::Grant(_) => GRANT,
-            Frame::Lapse(_) => LAPSE,
-            Frame::Order(_) => ORDER,
-            Frame::Cancel(_) => CANCEL,
-            Frame::Withdraw(_) => WITHDRAW,
-            Frame::Carry(_) => CARRY,
-            Frame::Find => FIND,
-            Frame::DrawAndSign => DRAW_AND_SIGN,
+            Frame::Open { .. } => Kind::Open,
+            Frame::Put { .. } => Kind::Put,
+            Frame::Grant(_) => Kind::Grant,
+            Frame::Lapse(_) => Kind::Lapse,
+            Frame::Order(_) => Kind::Order,
+            Frame::Cancel(_) => Kind::Cancel,
+            Frame::Withdraw(_) => Kind::Withdraw,
+            Frame::Carry(_) => Kind::Carry,
+            Frame::Find => Kind::Find,
+            Frame::DrawAndSign => Kind::DrawAndSign,
         }
     }
 }
@@ -91,7 +75,8 @@ impl FrameFault {
     {
         match self {
             FrameFault::Malformed => 0,
-            FrameFault::UnknownKind(kind) | FrameFault::WrongLength(kind) => *kind,
+            FrameFault::UnknownKind(byte) => *byte,
+            FrameFault::WrongLength(kind) => u8::from(*kind),
         }
     }
 
@@ -99,11 +84,20 @@ impl FrameFault {
     pub fn number(&self) -> u8
         ensures { result ≡ fault_number self.now }
     {
+        // Kept: the one place of the report's numbers; a variant that holds a value has no discriminant to cast.
         match self {
             FrameFault::Malformed => 1,
             FrameFault::UnknownKind(_) => 2,
             FrameFault::WrongLength(_) => 3,
         }
+    }
+}
+
+impl From<UnknownKind> for FrameFault {
+    ghost from_gives = { λ e r. r ≡ OfUnknownKind e.0 };
+
+    fn from(fault: UnknownKind) -> FrameFault {
+        FrameFault::UnknownKind(fault.0)
     }
 }
 
@@ -163,30 +157,21 @@ fn put(rest: &[u8]) -> Option<Frame>
     })
 }
 
-/// Whether frames of this kind exist.
-fn is_kind(kind: u8) -> bool
-    ensures holds { T result → (f : Frame) × (kind_of f ≡ kind) }
-    ensures fails { result ≡ false → (f : Frame) → kind_of f ≢ kind }
-{
-    matches!(kind, OPEN..=DRAW_AND_SIGN)
-}
-
 /// The frame of this kind with these bytes for its fields.
-fn frame_of_kind(kind: u8, rest: &[u8]) -> Option<Frame>
-    ensures { MatchOption result (NoneOfLength kind (length (kind ∷ rest.now))) (λ f. bytes_of f ≡ kind ∷ rest.now) }
+fn frame_of_kind(kind: Kind, rest: &[u8]) -> Option<Frame>
+    ensures { MatchOption result (NoneOfLength (kind_byte kind) (length (kind_byte kind ∷ rest.now))) (λ f. bytes_of f ≡ kind_byte kind ∷ rest.now) }
 {
     match kind {
-        OPEN => open(rest),
-        PUT => put(rest),
-        GRANT => Some(Frame::Grant(only_word(rest)?)),
-        LAPSE => Some(Frame::Lapse(only_word(rest)?)),
-        ORDER => Some(Frame::Order(only_word(rest)?)),
-        CANCEL => Some(Frame::Cancel(only_word(rest)?)),
-        WITHDRAW => Some(Frame::Withdraw(only_byte(rest)?)),
-        CARRY => Some(Frame::Carry(only_byte(rest)?)),
-        FIND if rest.is_empty() => Some(Frame::Find),
-        DRAW_AND_SIGN if rest.is_empty() => Some(Frame::DrawAndSign),
-        _ => None,
+        Kind::Open => open(rest),
+        Kind::Put => put(rest),
+        Kind::Grant => only_word(rest).map(Frame::Grant),
+        Kind::Lapse => only_word(rest).map(Frame::Lapse),
+        Kind::Order => only_word(rest).map(Frame::Order),
+        Kind::Cancel => only_word(rest).map(Frame::Cancel),
+        Kind::Withdraw => only_byte(rest).map(Frame::Withdraw),
+        Kind::Carry => only_byte(rest).map(Frame::Carry),
+        Kind::Find => rest.is_empty().then_some(Frame::Find),
+        Kind::DrawAndSign => rest.is_empty().then_some(Frame::DrawAndSign),
     }
 }
 
@@ -194,14 +179,11 @@ fn frame_of_kind(kind: u8, rest: &[u8]) -> Option<Frame>
 fn frame_of(bytes: &[u8]) -> Result<Frame, FrameFault>
     ensures { Means bytes.now result }
 {
-    let [kind, rest @ ..] = bytes else {
+    let [byte, rest @ ..] = bytes else {
         return Err(FrameFault::Malformed);
     };
-    match frame_of_kind(*kind, rest) {
-        Some(frame) => Ok(frame),
-        None if is_kind(*kind) => Err(FrameFault::WrongLength(*kind)),
-        None => Err(FrameFault::UnknownKind(*kind)),
-    }
+    let kind = Kind::try_from(*byte)?;
+    frame_of_kind(kind, rest).ok_or(FrameFault::WrongLength(kind))
 }
 
 /// The byte that two digits stand for.
@@ -211,35 +193,30 @@ fn pair(high: u8, low: u8) -> Option<u8>
     Some(digit(high)? * 16 + digit(low)?)
 }
 
-/// Writes the bytes that a line spells into the buffer, as far as it has room for them, and says how many it wrote.
-fn decode(line: &[u8], buffer: &mut [u8]) -> Option<usize>
-    ensures { MatchOption result ((bytes : List ℕ) → Spells line.now bytes → ⊥) (λ count. Decoded line.now buffer.new count) }
-{
-    if line.len() % 2 != 0 {
-        return None;
-    }
-    let count = line.len() / 2;
-    for i in 0..count {
-        let Some(byte) = pair(line[2 * i], line[2 * i + 1]) else {
-            return None;
-        };
-        if i < buffer.len() {
-            buffer[i] = byte;
-        }
-    }
-    Some(count.min(buffer.len()))
-}
-
 /// The bytes of the longest frame and one more: a line that fills this much is too long for every kind.
 const ROOM: usize = 15;
+
+/// The first bytes that a line spells. Each digit of the line is read, and the bytes past the room are left out.
+fn decode(line: &[u8]) -> Option<ArrayVec<u8, ROOM>>
+    ensures { MatchOption result ((bytes : List ℕ) → Spells line.now bytes → ⊥) (λ front. Decoded line.now front.items) }
+{
+    let (pairs, []) = line.as_chunks::<2>() else {
+        return None;
+    };
+    let mut bytes = ArrayVec::new();
+    for [high, low] in pairs {
+        let byte = pair(*high, *low)?;
+        if !bytes.is_full() {
+            bytes.push(byte);
+        }
+    }
+    Some(bytes)
+}
 
 /// What a line says, or why it says nothing. A line has any length and any bytes.
 pub fn read_frame(line: &[u8]) -> Result<Frame, FrameFault>
     ensures { Reads line.now result }
 {
-    let mut buffer = [0; ROOM];
-    match decode(line, &mut buffer) {
-        Some(count) => frame_of(&buffer[0..count]),
-        None => Err(FrameFault::Malformed),
-    }
+    let bytes = decode(line).ok_or(FrameFault::Malformed)?;
+    frame_of(&bytes)
 }

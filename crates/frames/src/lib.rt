@@ -4,6 +4,7 @@
 
 mod digits;
 mod frame;
+mod kind;
 mod lines;
 mod numbers;
 mod report;
@@ -11,6 +12,7 @@ mod theorems;
 
 pub use digits::{digit, hex_pair};
 pub use frame::{Frame, FrameFault, read_frame};
+pub use kind::{Kind, UnknownKind};
 pub use lines::next_line;
 pub use report::{Added, Refused, write_accepted, write_found, write_refused};
 pub use theorems::{

@@ -1,17 +1,15 @@
 //! Report lines: one for each line of a case file, in capital digits.
 
-ghost use Rattle.std.specs.Prelude.{◌≡◌, ◌+◌, ◌*◌, ◌<◌, ◌≤◌, ◌++◌, length, None};
+ghost use Rattle.std.specs.Prelude.{◌≡◌, ◌*◌, ◌<◌, ◌≤◌, ◌++◌, length, None};
 ghost use Rattle.frames.specs.Digits.{written};
-ghost use Rattle.frames.specs.Reports.{accepted_bytes, found_bytes, refused_bytes, overlaid, Printed};
+ghost use Rattle.frames.specs.Reports.{accepted_bytes, found_bytes, refused_bytes, Printed};
 
 use crate::digits::hex_pair;
-use crate::frame::FIND;
-use crate::numbers::{half_bytes, word_bytes};
+use crate::kind::Kind;
 
 /// What a refusal adds to its report line.
 #[derive(Clone, Copy, PartialEq, Eq, Debug)]
 pub enum Added {
-    Nothing,
     /// A set of facts.
     Set(u32),
     /// A set of facts, and the mark of the decider that could not settle it.
@@ -19,6 +17,7 @@ pub enum Added {
 }
 
 /// What the report line of a refused frame says.
+// Kept: the numbers as they stand in the line; an enum for one would ask more of who writes a line.
 #[derive(Clone, Copy, PartialEq, Eq, Debug)]
 pub struct Refused {
     /// The kind of the frame, or 0 where none could be read.
@@ -29,21 +28,18 @@ pub struct Refused {
     pub layer: u8,
     /// The number of the line, from 1.
     pub line: u16,
-    pub added: Added,
+    pub added: Option<Added>,
 }
 
-/// Writes the digits of the bytes into the buffer from `position` on, and says where they end.
-fn put_digits(bytes: &[u8], buffer: &mut [u8], position: usize) -> usize
-    requires { position + 2 * length bytes.now ≤ length buffer.old }
-    ensures end { result ≡ position + 2 * length bytes.now }
-    ensures after { buffer.new ≡ overlaid buffer.old position (written bytes.now) }
+/// Writes the digits of the bytes.
+fn put_digits(bytes: &[u8], digits: &mut [u8])
+    requires { length digits.old ≡ 2 * length bytes.now }
+    ensures { digits.new ≡ written bytes.now }
 {
-    for i in 0..bytes.len() {
-        let [high, low] = hex_pair(bytes[i]);
-        buffer[position + 2 * i] = high;
-        buffer[position + 2 * i + 1] = low;
+    // Kept: the place of each pair by its index, since chunks_exact_mut does not say what the slice then holds.
+    for (i, byte) in bytes.iter().enumerate() {
+        digits[2 * i..2 * i + 2].copy_from_slice(&hex_pair(*byte));
     }
-    position + 2 * bytes.len()
 }
 
 /// Writes the report line of the bytes of `head` and then of `tail` to the front of the buffer, and says how long it is;
@@ -51,16 +47,13 @@ fn put_digits(bytes: &[u8], buffer: &mut [u8], position: usize) -> usize
 fn write_line(head: &[u8], tail: &[u8], buffer: &mut [u8]) -> Option<usize>
     ensures { Printed (head.now ++ tail.now) buffer.old buffer.new result }
 {
-    if buffer.is_empty() {
+    let end = (head.len() + tail.len()).checked_mul(2)?;
+    if buffer.len() <= end {
         return None;
     }
-    // How many bytes have room before the line feed.
-    let room = (buffer.len() - 1) / 2;
-    if head.len() > room || tail.len() > room - head.len() {
-        return None;
-    }
-    let middle = put_digits(head, buffer, 0);
-    let end = put_digits(tail, buffer, middle);
+    let middle = 2 * head.len();
+    put_digits(head, &mut buffer[..middle]);
+    put_digits(tail, &mut buffer[middle..end]);
     buffer[end] = b'\n';
     Some(end + 1)
 }
@@ -69,6 +62,7 @@ fn write_line(head: &[u8], tail: &[u8], buffer: &mut [u8]) -> Option<usize>
 pub fn write_accepted(kind: u8, buffer: &mut [u8]) -> Option<usize>
     ensures { Printed (accepted_bytes kind) buffer.old buffer.new result }
 {
+    // Kept: the kind as a byte, since Kind would ask more of the caller.
     write_line(&[kind, 0], &[], buffer)
 }
 
@@ -76,13 +70,13 @@ pub fn write_accepted(kind: u8, buffer: &mut [u8]) -> Option<usize>
 pub fn write_refused(refused: &Refused, buffer: &mut [u8]) -> Option<usize>
     ensures { Printed (refused_bytes refused.now) buffer.old buffer.new result }
 {
-    let [high, low] = half_bytes(refused.line);
+    let [high, low] = refused.line.to_be_bytes();
     let head = [refused.kind, refused.refusal, refused.layer, high, low];
     match refused.added {
-        Added::Nothing => write_line(&head, &[], buffer),
-        Added::Set(facts) => write_line(&head, &word_bytes(facts), buffer),
-        Added::SetAndMark(facts, mark) => {
-            let [a, b, c, d] = word_bytes(facts);
+        None => write_line(&head, &[], buffer),
+        Some(Added::Set(facts)) => write_line(&head, &facts.to_be_bytes(), buffer),
+        Some(Added::SetAndMark(facts, mark)) => {
+            let [a, b, c, d] = facts.to_be_bytes();
             write_line(&head, &[a, b, c, d, mark], buffer)
         }
     }
@@ -94,10 +88,12 @@ pub fn write_found(facts: u32, size: u8, places: &[u8], buffer: &mut [u8]) -> Op
     ensures printed { length places.now < 65536 → Printed (found_bytes facts size places.now) buffer.old buffer.new result }
     ensures uncounted { 65536 ≤ length places.now → (result ≡ None) × (buffer.new ≡ buffer.old) }
 {
-    let Ok(count) = u16::try_from(places.len()) else {
-        return None;
-    };
-    let [a, b, c, d] = word_bytes(facts);
-    let [high, low] = half_bytes(count);
-    write_line(&[FIND, 0, a, b, c, d, size, high, low], places, buffer)
+    let count = u16::try_from(places.len()).ok()?;
+    let [a, b, c, d] = facts.to_be_bytes();
+    let [high, low] = count.to_be_bytes();
+    write_line(
+        &[u8::from(Kind::Find), 0, a, b, c, d, size, high, low],
+        places,
+        buffer,
+    )
 }

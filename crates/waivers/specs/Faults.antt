@@ -1,8 +1,8 @@
 -- The faults of find by number and layer; a fault of a layer below keeps its own.
 use Rattle.std.specs.Prelude.{ℕ}
-use Rattle.rules.specs.Refusals as refusals
 use Rattle.rules.specs.declared.layer.Layer.{Layer}
 use Rattle.rules.specs.declared.layer.Layer.TheVariants as layers
+use Rattle.rules.specs.Refusals as refusals
 use Rattle.deciders.specs.Answers.{reported}
 use Rattle.waivers.specs.declared.fault.FinderFault.{FinderFault}
 use Rattle.waivers.specs.declared.fault.FinderFault.TheVariants.{Case, SheetSize, BookSize, NoWaiver, Decider, ListFull}

@@ -11,7 +11,7 @@ use crate::reading::Reading;
 use crate::serving::{Reply, serve};
 use cases::Case;
 use deciders::{Decider, Row};
-use frames::{Added, Refused, next_line, read_frame, write_accepted, write_found, write_refused};
+use frames::{Refused, next_line, read_frame, write_accepted, write_found, write_refused};
 use pickers::Picker;
 
 /// The most bytes of a text.
@@ -20,13 +20,9 @@ pub const MAX_TEXT: usize = 16384;
 /// The fewest bytes of a report buffer: those of the longest report line, with a plan of 4,095 places.
 pub const MIN_REPORT: usize = 8209;
 
-/// What reading the next line came to.
-#[derive(Clone, Copy)]
-pub enum Progress {
-    /// A line was read, and its report line has this many bytes.
-    Reported(usize),
-    /// There is no further line.
-    Past,
+/// Why no line of a text is read.
+#[derive(Clone, Copy, PartialEq, Eq, Debug)]
+pub enum ReadFault {
     /// The text has more than 16,384 bytes. The report line that says so has this many bytes.
     TextTooLong(usize),
     /// The report buffer has fewer than 8,209 bytes.
@@ -49,11 +45,12 @@ fn ask<D: Decider, P: Picker>(
     sheet: &mut [Row],
     book: &mut [u8],
 ) -> Answer
-    ensures { Asks (P.Picker.choice picker.now) (λ s. D.Decider.reach decider.old (view case.old).task s (length sheet.old) (length book.old)) D.Decider.signed line.now result.kind (view case.old) result.reply (view case.new) sheet.old book.old sheet.new book.new }
+    ensures asks { Asks (P.Picker.choice picker.now) (λ s. D.Decider.reach decider.old (view case.old).task s (length sheet.old) (length book.old)) D.Decider.signed line.now result.kind (view case.old) result.reply (view case.new) sheet.old book.old sheet.new book.new }
+    ensures fits { Fits result.reply book.new }
 {
     match read_frame(line) {
         Ok(frame) => Answer {
-            kind: frame.kind(),
+            kind: u8::from(frame.kind()),
             reply: serve(&frame, case, decider, picker, sheet, book),
         },
         Err(fault) => Answer {
@@ -65,21 +62,19 @@ fn ask<D: Decider, P: Picker>(
 
 /// Writes the report line of an answer to the front of the buffer, and says how long it is.
 fn report(answer: &Answer, line: u16, book: &[u8], buffer: &mut [u8]) -> Option<usize>
-    ensures { Fits answer.now.reply book.now → Printed (reply_bytes answer.now.kind line answer.now.reply book.now) buffer.old buffer.new result }
+    requires { Fits answer.now.reply book.now }
+    ensures { Printed (reply_bytes answer.now.kind line answer.now.reply book.now) buffer.old buffer.new result }
 {
     match answer.reply {
         Ok(Reply::Done) => write_accepted(answer.kind, buffer),
-        Ok(Reply::Found { set, size, length }) => write_found(
-            set,
-            size,
-            book.get(0..length as usize)?,
-            buffer,
-        ),
+        Ok(Reply::Found { set, size, length }) => {
+            write_found(set, size, &book[..usize::from(length)], buffer)
+        }
         Err(fault) => {
             let refused = Refused {
                 kind: answer.kind,
                 refusal: fault.number(),
-                layer: fault.layer(),
+                layer: u8::from(fault.layer()),
                 line,
                 added: fault.added(),
             };
@@ -100,7 +95,7 @@ impl Reading {
     }
 
     /// Reads the next line of the text, makes the call that it asks for, and writes its report line to the front of the
-    /// buffer, of which the rest stays.
+    /// buffer, of which the rest stays. Says how many bytes the report line has, or that there is no further line.
     pub fn next<D: Decider, P: Picker>(
         &mut self,
         text: &[u8],
@@ -110,28 +105,27 @@ impl Reading {
         sheet: &mut [Row],
         book: &mut [u8],
         buffer: &mut [u8],
-    ) -> Progress
+    ) -> Result<Option<usize>, ReadFault>
         ensures { ReadsNext (P.Picker.choice picker.now) (λ s. D.Decider.reach decider.old (view case.old).task s (length sheet.old) (length book.old)) D.Decider.signed text.now self.old.position self.old.lines self.new.position self.new.lines (view case.old) (view case.new) sheet.old sheet.new book.old book.new buffer.old buffer.new result }
     {
         if buffer.len() < MIN_REPORT {
-            return Progress::BufferTooShort;
+            return Err(ReadFault::BufferTooShort);
         }
         if text.len() > MAX_TEXT {
-            let refused = Refused {
+            let answer = Answer {
                 kind: 0,
-                refusal: 19,
-                layer: 1,
-                line: 0,
-                added: Added::Nothing,
+                reply: Err(LineFault::TextTooLong),
             };
-            return Progress::TextTooLong(write_refused(&refused, buffer).unwrap_or(0));
+            let length = report(&answer, 0, book, buffer).ok_or(ReadFault::BufferTooShort)?;
+            return Err(ReadFault::TextTooLong(length));
         }
         let Some((line, next)) = next_line(text, self.position) else {
-            return Progress::Past;
+            return Ok(None);
         };
-        let answered = ask(line, case, decider, picker, sheet, book);
+        let answer = ask(line, case, decider, picker, sheet, book);
         self.position = next;
         self.lines += 1;
-        Progress::Reported(report(&answered, self.lines, book, buffer).unwrap_or(0))
+        let length = report(&answer, self.lines, book, buffer).ok_or(ReadFault::BufferTooShort)?;
+        Ok(Some(length))
     }
 }

@@ -1,28 +1,28 @@
-use Rattle.std.proofs.Common.{ℕ, ◌+◌, ◌/◌, ◌<◌, List, length, get_or, sym, subst, arith, rules}
-use Rattle.frames.specs.Frames.{Decoded}
-use Rattle.frames.proofs.Decoding.{Held, held_written, held_passed, decoded_all}
+use Rattle.std.proofs.Common.{◌+◌, ◌*◌, ◌/◌, [], ◌∷◌, ◌++◌, length, get_or, arith, rules}
+use Rattle.frames.specs.Digits.{Pair}
+use Rattle.frames.proofs.Decoding.{pair_at, held_more, held_full}
 use Rattle.frames.proofs.frame.decode.Goals as goal
-use Rattle.frames.proofs.frame.decode.Goals.{then-i-buffer, else-i-buffer}
+use Rattle.frames.proofs.frame.decode.Goals.{then-not-is_full, else-not-is_full}
 
-pub returns-in_default : goal.returns-in_default
-returns-in_default c = λ bytes spelled. c.in_default.ensures (get_or bytes c.loop-i.i 0) (spelled.1 c.loop-i.i (omega (arith, spelled.0)))
-
-pub loop-i-preserved : goal.loop-i-preserved
-loop-i-preserved c =
+pub returns-in_err-byte : goal.returns-in_err-byte
+returns-in_err-byte c =
     let line = c.args.line.now in
-    let P : List ℕ → Type 0 = λ buffer. (k : ℕ) → k < c.loop-i.i + 1 → Held line buffer k in
-    elim c.if-i-buffer.branch [
-      | then-i-buffer w ↦
-          subst P (sym w.buffer-is)
-          (held_written line c.loop-i.buffer c.loop-i.i c.in-Some.byte w.if-i-buffer.true c.in-Some.ensures c.loop-i.invariant)
-      | else-i-buffer w ↦
-          subst P (sym w.buffer-is)
-          (held_passed line c.loop-i.buffer c.loop-i.i c.in-Some.byte w.if-i-buffer.false c.in-Some.ensures c.loop-i.invariant)
+    let i = c.loop-high.high-index in
+    let at = pair_at line c.as_chunks.result.0.now (length line / 2) i c.as_chunks.ensures.front (omega arith) in
+    rw c.from_residual.ensures
+    (λ bytes spelled. c.in_err-byte.ensures (get_or bytes i 0) (rw (at.0, at.1) (spelled.1 i (omega arith))))
+
+pub loop-high-preserved : goal.loop-high-preserved
+loop-high-preserved c =
+    let line = c.args.line.now in
+    let i = c.loop-high.high-index in
+    let byte = c.in_ok-byte.byte in
+    let bytes = c.loop-high.invariant.0 in
+    let held = c.loop-high.bytes.items in
+    let so_far = c.loop-high.invariant.1 in
+    let at = pair_at line c.as_chunks.result.0.now (length line / 2) i c.as_chunks.ensures.front (omega arith) in
+    let pair : Pair (get_or line (2 * i) 0) (get_or line (2 * i + 1) 0) byte = rw (at.0, at.1) at c.in_ok-byte.ensures in
+    elim c.if-not-is_full.branch [
+      | then-not-is_full w ↦ (bytes ++ byte ∷ [], rw w.bytes-is (rw w.push.ensures.items (held_more line bytes held i byte so_far pair (search rules))))
+      | else-not-is_full w ↦ (bytes ++ byte ∷ [], rw w.bytes-is (held_full line bytes held i byte so_far pair (search rules)))
     ]
-
-pub returns : goal.returns
-returns c =
-    let line = c.args.line.now in
-    let half : ℕ = length line / 2 in
-    subst (λ (n : ℕ). Decoded line c.loop-i.buffer n) (sym c.min.ensures)
-    (decoded_all line c.loop-i.buffer half (search rules) (λ k h. c.loop-i.invariant k (omega arith)))

@@ -1,10 +1,18 @@
-use Rattle.std.proofs.Common.{sym, ◌∙◌, rules}
+use Rattle.std.proofs.Common.{◌≡◌, ℕ, List, ◌∷◌, length, sym, ap, ◌∙◌, rules}
+use Rattle.std.specs.List.{between}
 use Rattle.std.proofs.lemmas.List.{nil_from_length}
 use Rattle.std.proofs.lemmas.Slice.{first_rest}
+use Rattle.frames.specs.Kinds.{kind_byte}
+use Rattle.frames.proofs.Lengths.{means_of_kind}
 use Rattle.frames.proofs.frame.frame_of.Goals as goal
 
 pub returns-in_default : goal.returns-in_default
 returns-in_default c = nil_from_length c.args.bytes.now (search rules)
 
-pub returns-in-Some : goal.returns-in-Some
-returns-in-Some c = c.in-Some.ensures ∙ sym (first_rest c.args.bytes.now 0 (search rules))
+pub returns : goal.returns
+returns c =
+    let bytes = c.args.bytes.now in
+    let rest : List ℕ = between 1 (length bytes) bytes in
+    let begins : kind_byte c.in_ok-kind.kind ∷ rest ≡ bytes =
+    ap (λ (byte : ℕ). byte ∷ rest) c.in_ok-kind.ensures ∙ sym (first_rest bytes 0 (search rules)) in
+    rw c.ok_or.ensures.value (means_of_kind c.in_ok-kind.kind rest bytes c.frame_of_kind.result begins c.frame_of_kind.ensures)

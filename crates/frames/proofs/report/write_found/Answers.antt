@@ -1,22 +1,14 @@
-use Rattle.std.proofs.Common.{◌≡◌, length, arith, rules}
-use Rattle.frames.specs.Numbers.{half_bytes}
-use Rattle.frames.specs.Reports.{found_bytes}
-use Rattle.frames.proofs.Contents.{printed_as, found_parts, found_parts_lem}
+use Rattle.std.proofs.Common.{◌≡◌, ◌/◌, ◌%◌, length, arith, rules}
+use Rattle.frames.specs.Numbers.{word_bytes, half_bytes}
 use Rattle.frames.proofs.report.write_found.Goals as goal
 
-pub returns : goal.returns
-returns c =
-    let places = c.args.places.now in
-    let word = c.word_bytes.result in
-    let half = c.half_bytes.result in
-    let counted : c.in-Ok.count ≡ length places = search rules in
-    let shown = c.half_bytes.ensures in
-    let counts : half ≡ half_bytes (length places) = cc in
-    record {
-      printed = λ few.
-          printed_as (found_parts word c.args.size half places) (found_bytes c.args.facts c.args.size places)
-          c.args.buffer.now c.write_line.new.buffer c.write_line.result
-          (found_parts_lem c.args.facts word c.args.size half places c.word_bytes.ensures counts)
-          c.write_line.ensures;
-      uncounted = λ many. absurd (omega (arith, c.in-Ok.ensures.0));
-    }
+pub returns-clause-printed : goal.returns-clause-printed
+returns-clause-printed c few =
+    let facts = c.args.facts in
+    let count = length c.args.places.now in
+    let facts_fit : facts / 16777216 % 256 ≡ facts / 16777216 = omega arith in
+    let word : c.to_be_bytes.result ≡ word_bytes facts = cc in
+    let counted : c.in_ok-count.count ≡ count = search rules in
+    let count_fits : count / 256 % 256 ≡ count / 256 = omega arith in
+    let half : c.to_be_bytes-2.result ≡ half_bytes count = cc in
+    rw (word, half, c.from.ensures) at c.write_line.ensures
