@@ -4,47 +4,32 @@
 
 ghost use Rattle.std.specs.Prelude.{◌≡◌, ◌≤◌, IfOk, vec_len};
 
+use draws::Generator;
 use pickers::{BranchingPicker, CountingPicker, Picker};
 use rules::{Facts, size};
 use std::alloc::{AllocError, Global};
 use std::io;
 use std::iter::repeat_with;
 
-/// A generator of pseudo-random numbers, the same on each run.
-#[derive(Drop)]
-struct Generator {
-    state: u32,
-}
-
-impl Generator {
-    fn next(&mut self) -> u32 {
-        self.state = self
-            .state
-            .wrapping_mul(1_664_525)
-            .wrapping_add(1_013_904_223);
-        self.state >> 16
-    }
-
-    /// A set of `count` facts out of 32, each as likely as any other.
-    fn facts(&mut self, count: u32) -> Facts {
-        let mut set = 0;
-        let mut wanted = count;
-        for fact in 0..32u32 {
-            if self.next() % (32 - fact) < wanted {
-                set |= 1 << fact;
-                wanted -= 1;
-            }
+/// A set of `count` facts out of 32, each as likely as any other.
+fn random_set(generator: &mut Generator, count: u32) -> Facts {
+    let mut set = 0;
+    let mut wanted = count;
+    for fact in 0..32u32 {
+        if (generator.draw() >> 16) % (32 - fact) < wanted {
+            set |= 1 << fact;
+            wanted -= 1;
         }
-        set
     }
+    set
 }
 
 /// 64 random groups of `count` facts each.
 fn random_groups(heap: Global, seed: u32, count: u32) -> Result<Vec<Facts>, AllocError>
     ensures { IfOk result (λ v. vec_len v ≡ 64) }
 {
-    let mut generator = Generator { state: seed };
-    repeat_with(|| generator.facts(count))
+    let mut generator = Generator::new(seed);
+    repeat_with(|| random_set(&mut generator, count))
         .take(64)
         .collect(heap)
 }
