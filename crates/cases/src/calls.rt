@@ -8,6 +8,7 @@ ghost use Rattle.cases.specs.State.{put as filled, grant as granted, lapse as la
 use crate::case::Case;
 use rules::{Facts, Refusal, Step};
 
+// Kept: each call in its own three steps; a method that takes the middle one as a closure makes `grant` no shorter.
 impl Case {
     /// Puts a step into an empty place.
     pub fn put(&mut self, place: u8, step: Step) -> Result<(), Refusal>

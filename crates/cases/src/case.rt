@@ -12,6 +12,7 @@ use waivers::KnownGroups;
 
 /// A studio's case: its number, its problem with the groups that are known of it, the set that find found last, and
 /// whether a slip is out. A case whose problem has no facts is unopened.
+// Kept: no facts stands for unopened, as the plain case has it, and the flag stands beside a finding that is an Option: rules of the project.
 #[derive(Drop)]
 pub struct Case {
     pub(crate) number: u32,

@@ -13,6 +13,7 @@ use rules::{Facts, size};
 use waivers::FinderFault;
 
 /// What stands in a place of the plan book past the plan.
+// Kept: a byte a place, so no Option: a rule of the project.
 const NO_PLACE: u8 = 255;
 
 /// Sets every row to zero.

@@ -9,6 +9,7 @@ use crate::problem::{Problem, Standing};
 use crate::table::StepTable;
 
 /// What the plan check says of a list of places.
+// Kept: three answers, and no error among them; as a Result it would stand inside the Result of the case's refusals.
 #[derive(Clone, Copy, PartialEq, Eq, Debug)]
 pub enum PlanCheck {
     /// The places are a plan.

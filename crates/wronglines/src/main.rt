@@ -4,6 +4,7 @@
 
 use desk::serve_input;
 
+// Kept: a program of its own, since the gate runs each program on one input alone.
 fn main(rt: HostRuntime) -> anyhow::Result<()> {
     serve_input(&rt)
 }
