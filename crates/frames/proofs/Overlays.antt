@@ -1,16 +1,11 @@
 -- Report lines, put together from their digits.
 use Rattle.std.proofs.Common.{◌≡◌, ℕ, ◌+◌, ◌-◌, ◌*◌, ◌<◌, ◌≤◌, List, [], ◌∷◌, ◌++◌, length, get_or, take, drop, set, Some, sym, ap, ◌∙◌, arith}
 use Rattle.std.proofs.lemmas.Grind.{flat_map-append}
-use Rattle.std.proofs.lemmas.List.{append_assoc, length-append, take_more, take_at, drop_at, drop-drop, drop_more, set_at, flat_map_more}
+use Rattle.std.proofs.lemmas.List.{append_assoc, length-append, take_at, drop_at, drop-drop, drop_more, set_at}
 use borrow.Rule.Slice.PartMut.{put_mid}
 use Rattle.frames.specs.Digits.{capitals, written}
 use Rattle.frames.specs.Reports.{report_line, Printed}
 use Rattle.frames.proofs.Spelling.{length_written}
-
--- one more byte is two more digits
-pub written_more : (bytes : List ℕ) (i : ℕ) → i < length bytes → written (take i bytes) ++ capitals (get_or bytes i 0) ≡ written (take (i + 1) bytes)
-written_more bytes i h =
-    flat_map_more capitals [] (take i bytes) (get_or bytes i 0) ∙ ap written (sym (take_more bytes i 0 h))
 
 pub length_line : (bytes : List ℕ) → length (report_line bytes) ≡ 2 * length bytes + 1
 length_line bytes = omega (arith, length-append (written bytes) (10 ∷ []), length_written bytes)

@@ -1,8 +1,8 @@
 -- Numbers of several bytes: the bytes of a number that was read are the bytes that it was read from.
-use Rattle.std.proofs.Common.{◌≡◌, ℕ, ◌/◌, ◌%◌, ◌^◌, ◌<◌, ◌≤◌, List, [], ◌∷◌, ◌++◌, length, get_or, take, drop, w16, w32, sym, refl, ap, ◌∙◌, arith}
+use Rattle.std.proofs.Common.{◌≡◌, ℕ, ◌/◌, ◌%◌, ◌^◌, ◌<◌, ◌≤◌, List, ◌++◌, length, get_or, take, drop, w16, w32, sym, ap, ◌∙◌, arith}
 use Rattle.std.specs.Int.{from_be_bytes, to_be_bytes}
 use Rattle.std.proofs.lemmas.Grind.{common_steps}
-use Rattle.std.proofs.lemmas.List.{append-nil, length-take-le, take-append-drop}
+use Rattle.std.proofs.lemmas.List.{length-take-le, take-append-drop}
 use Rattle.std.proofs.lemmas.Nat.{be_bytes_4}
 use Rattle.frames.specs.Numbers.{word_bytes, half_bytes, number_of}
 
@@ -25,37 +25,5 @@ word_front s front rest n cut left long small fits e =
     sym (word_from_be n fits) ∙ be_bytes_4 (take 4 s) n (length-take-le 4 s long) (small_front s small) (e ∙ ap (from_be_bytes w32) cut) in
     ap (λ (r : List ℕ). word_bytes n ++ r) left ∙ ap (λ (front : List ℕ). front ++ drop 4 s) bytes ∙ take-append-drop 4 s
 
--- numbers are read back from their bytes, and bytes from their number
 pub number_of-word_bytes : (n : ℕ) → number_of (word_bytes n) ≡ n
 number_of-word_bytes n = omega arith
-
-pub number_of-half_bytes : (n : ℕ) → number_of (half_bytes n) ≡ n
-number_of-half_bytes n = omega arith
-
-pub word_bytes-number_of
-    : (a b c d : ℕ) → a < 256 → b < 256 → c < 256 → d < 256 → word_bytes (number_of (a ∷ b ∷ c ∷ d ∷ [])) ≡ a ∷ b ∷ c ∷ d ∷ []
-word_bytes-number_of a b c d ha hb hc hd =
-    let n : ℕ = number_of (a ∷ b ∷ c ∷ d ∷ []) in
-    let ea : n / 16777216 ≡ a = omega arith in
-    let eb : n / 65536 % 256 ≡ b = omega arith in
-    let ec : n / 256 % 256 ≡ c = omega arith in
-    let ed : n % 256 ≡ d = omega arith in
-    cc
-
-pub half_bytes-number_of : (a b : ℕ) → a < 256 → b < 256 → half_bytes (number_of (a ∷ b ∷ [])) ≡ a ∷ b ∷ []
-half_bytes-number_of a b ha hb =
-    let n : ℕ = number_of (a ∷ b ∷ []) in
-    let ea : n / 256 ≡ a = omega arith in
-    let eb : n % 256 ≡ b = omega arith in
-    cc
-
--- a list of one element
-pub single : (s : List ℕ) → length s ≡ 1 → get_or s 0 0 ∷ [] ≡ s
-single [] h = absurd (omega arith)
-single (a ∷ []) h = refl
-single (a ∷ b ∷ s) h = absurd (omega arith)
-
--- a list of which nothing is left after a part is that part
-pub whole : (part rest s : List ℕ) → part ++ rest ≡ s → length rest ≡ 0 → part ≡ s
-whole part [] s e h = sym (append-nil part) ∙ e
-whole part (a ∷ rest) s e h = absurd (omega arith)

@@ -1,13 +1,9 @@
 use Rattle.std.proofs.Common.{◌≡◌, ℕ, List, ◌∷◌, length, sym, ap, ◌∙◌, rules}
 use Rattle.std.specs.List.{between}
-use Rattle.std.proofs.lemmas.List.{nil_from_length}
 use Rattle.std.proofs.lemmas.Slice.{first_rest}
 use Rattle.frames.specs.Kinds.{kind_byte}
 use Rattle.frames.proofs.Lengths.{means_of_kind}
 use Rattle.frames.proofs.frame.frame_of.Goals as goal
-
-pub returns-in_default : goal.returns-in_default
-returns-in_default c = nil_from_length c.args.bytes.now (search rules)
 
 pub returns : goal.returns
 returns c =
