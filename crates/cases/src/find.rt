@@ -55,9 +55,12 @@ impl Case {
         sheet: &mut [Row],
         book: &mut [u8],
     ) -> Result<(Facts, u8, u16), FinderFault>
-        ensures finds { Finds (P.Picker.choice picker.now) (λ s. D.Decider.reach decider.old (view self.old).task s (length sheet.old) (length book.old)) D.Decider.signed (view self.old) result (view self.new) sheet.old book.old sheet.new book.new (finding (view self.old) (length sheet.old) (length book.old)) }
+        ensures finds { Finds (P.choice picker.now)
+            (λ s. D.reach decider.old (view self.old).task s (length sheet.old) (length book.old))
+            D.signed (view self.old) result (view self.new) sheet.old book.old sheet.new book.new
+            (finding (view self.old) (length sheet.old) (length book.old)) }
         ensures listed { Listed (known_of (view self.new)) }
-        ensures same { Same (D.Decider.reach decider.old) (D.Decider.reach decider.new) }
+        ensures same { Same (D.reach decider.old) (D.reach decider.new) }
     {
         self.check_find(sheet.len(), book.len())?;
         let searched = self.known.find_smallest(decider, picker, sheet, book);

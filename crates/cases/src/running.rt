@@ -36,8 +36,8 @@ fn without_slip(decided: Result<(), (Slip, Refusal)>) -> Result<(), Refusal>
 
 /// Makes one call.
 fn make<D: Decider, P: Picker>(case: &mut Case, decider: &mut D, picker: &P, call: Call) -> Answer
-    ensures makes { Makes (P.Picker.choice picker.now) (D.Decider.reach decider.old) D.Decider.signed (view case.old) call result (view case.new) }
-    ensures same { Same (D.Decider.reach decider.old) (D.Decider.reach decider.new) }
+    ensures makes { Makes (P.choice picker.now) (D.reach decider.old) D.signed (view case.old) call result (view case.new) }
+    ensures same { Same (D.reach decider.old) (D.reach decider.new) }
 {
     match call {
         Call::Open {
@@ -79,7 +79,7 @@ pub fn run<D: Decider, P: Picker>(
     picker: &P,
     calls: Vec<Call>,
 ) -> Result<(Vec<Answer>, Case), AllocError>
-    ensures { IfOk result (λ v. Law (D.Decider.reach decider.old) D.Decider.signed calls.items v.0.items (view v.1)) }
+    ensures { IfOk result (λ v. Law (D.reach decider.old) D.signed calls.items v.0.items (view v.1)) }
 {
     let mut case = Case::new(heap)?;
     let mut answers = Vec::with_capacity(heap, calls.len())?;
