@@ -9,14 +9,8 @@ use Rattle.rules.proofs.Sets.{bits, meets_or_apart, apart→, share_test, test_s
 use Rattle.rules.proofs.Plans.{held_struck, some_without, leads→, →leads}
 use Rattle.rules.proofs.Listing.{T→true, path_push, listed_reached, reached_listed}
 use Rattle.rules.proofs.Forwards.{forward_walks, →forward}
-use Rattle.deciders.specs.declared.row.Row.{Row}
-use Rattle.deciders.specs.declared.search.Progress.{Progress}
-use Rattle.deciders.specs.declared.search.Progress.TheVariants.{Rows, Goal}
-use Rattle.deciders.specs.Rows.{row, Climbs}
-use Rattle.deciders.specs.Searches.{Finds}
 use Rattle.deciders.specs.Reaches.{shares, backward}
 use Rattle.deciders.specs.Theorems.{wanted, WantedLeads, LeadsWanted, WantedBlocked, BackwardExample}
-use Rattle.deciders.proofs.Settled.{climbed_path}
 
 -- ---- a step leads backward exactly where it gives a fact that is wanted and takes none
 
@@ -103,20 +97,10 @@ struck_consistent p x sane i t e (f, y, z) =
       omega (arith, bits, z, ap (λ (v : Step). bit v.takes f) q),
     )
 
--- ---- what the sheet says
-
-module _ (p : Task) (sheet : List Row) where
-  abbrev Said : Progress → Type 0
-  Said r = Finds backward (λ w. w ⊆ p.standing) p.steps p.order sheet r
-
-  pub backward_blocked : Consistent p → (n : ℕ) → Said (Rows n) → (l : List ℕ) → Plan p l → ⊥
-  backward_blocked sane n h = wanted_blocked p n sane h.1 h.2
-
-  pub backward_plan : (i : ℕ) → Said (Goal i) → (l : List ℕ) → Climbs sheet i l 0 → Plan p l
-  backward_plan i h l up =
-      let path = climbed_path backward p.steps p.order sheet (i + 1) h.2 l i (omega arith) up in
-      let (e, walk, o) = back_walk p (reverse l) p.order (row sheet i).set p.standing path h.3 in
-      →leads p p.standing l e (subst (λ k. Walk p.steps p.standing k e) (reverse-reverse l) walk) o
+pub backward_plan : (p : Task) (l : List ℕ) (w : ℕ) → Path backward p.steps p.order (reverse l) w → w ⊆ p.standing → Plan p l
+backward_plan p l w path sub =
+    let (e, walk, o) = back_walk p (reverse l) p.order w p.standing path sub in
+    →leads p p.standing l e (subst (λ k. Walk p.steps p.standing k e) (reverse-reverse l) walk) o
 
 -- ---- the worked example
 

@@ -170,10 +170,9 @@ module _ (heads links l : List ℕ) (s : ℕ) (x : Indexed heads links l) where
     left = λ j k q. omega (arith, x.all j k, ap (λ (n : ℕ). get_or heads n 0) (ap hash_of q ∙ sym e));
   }
 
-  pub look_on : (link : ℕ) → Looking l s link → 0 < link → (get_or l (link - 1) 0 ≡ s → ⊥) → Looking l s (get_or links (link - 1) 0)
-  look_on link k h n =
-      let i : ℕ = link - 1 in
-      let e : hash_of (get_or l i 0) ≡ hash_of s = k.alike i (omega arith) in
+  pub look_on : (link i : ℕ) → Looking l s link → link ≡ i + 1 → (get_or l i 0 ≡ s → ⊥) → Looking l s (get_or links i 0)
+  look_on link i k h n =
+      let e : hash_of (get_or l i 0) ≡ hash_of s = k.alike i h in
       record {
         low = omega (arith, x.falls i (omega (arith, k.low)), k.low);
         alike = λ j q. x.alike_next i j (omega (arith, k.low)) q ∙ e;
@@ -184,16 +183,13 @@ module _ (heads links l : List ℕ) (s : ℕ) (x : Indexed heads links l) where
       }
 
 -- the same, over the rows that the code reads
-module _ (heads links : List ℕ) (sheet : List Row) (n s link : ℕ) (fits : n ≤ length sheet) (low : link ≤ n) (k : Looking (entries sheet n) s link) where
-  pub found : 0 < link → (row sheet (link - 1)).set ≡ s → true ≡ listed s (entries sheet n)
-  found h e =
-      sym (listed_at s (entries sheet n) (link - 1) (omega (arith, entries_length sheet n fits)) (entries_at sheet n (link - 1) fits (omega arith) ∙ e))
+module _ (heads links : List ℕ) (sheet : List Row) (n s link : ℕ) (fits : n ≤ length sheet) (k : Looking (entries sheet n) s link) where
+  pub found : (i : ℕ) → i < n → (row sheet i).set ≡ s → true ≡ listed s (entries sheet n)
+  found i h e = sym (listed_at s (entries sheet n) i (omega (arith, entries_length sheet n fits)) (entries_at sheet n i fits h ∙ e))
 
   pub missing : link ≡ 0 → false ≡ listed s (entries sheet n)
   missing h = sym (listed_not s (entries sheet n) (λ i l e. omega (arith, k.left i l e)))
 
-  pub going_on : Indexed heads links (entries sheet n) → 0 < link → ((row sheet (link - 1)).set ≡ s → ⊥)
-      → (get_or links (link - 1) 0 ≤ n) × Looking (entries sheet n) s (get_or links (link - 1) 0)
-  going_on x h ne =
-      let q = look_on heads links (entries sheet n) s x link k h (λ e. ne (sym (entries_at sheet n (link - 1) fits (omega arith)) ∙ e)) in
-      (omega (arith, q.low, entries_length sheet n fits), q)
+  pub going_on : (i : ℕ) → Indexed heads links (entries sheet n) → link ≡ i + 1 → i < n → ((row sheet i).set ≡ s → ⊥)
+      → Looking (entries sheet n) s (get_or links i 0)
+  going_on i x at h ne = look_on heads links (entries sheet n) s x link i k at (λ e. ne (sym (entries_at sheet n i fits h) ∙ e))

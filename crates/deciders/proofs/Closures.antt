@@ -4,11 +4,11 @@ use native.Mathlib.Decide.{dec_lt}
 use Rattle.std.proofs.lemmas.Bool.{cases_eq}
 use Rattle.rules.specs.declared.step.Step.{Step}
 use Rattle.rules.specs.Sets.{bit, ◌⊆◌, ◌∪◌}
-use Rattle.rules.specs.Planning.{Task, done, Leads, place_without}
+use Rattle.rules.specs.Planning.{Task, done, Leads}
 use Rattle.rules.proofs.Sets.{bits, sub_le, same_facts, inside_dec}
 use Rattle.rules.proofs.Tables.{past_places}
 use Rattle.deciders.specs.Closures.{Under, Closed, Closure, Round}
-use Rattle.deciders.specs.Searches.{actions_of, steps_of}
+use Rattle.deciders.specs.Struck.{actions_of, steps_of}
 use Rattle.deciders.specs.Theorems.{ClosureExists, ClosureUnique, ScreenedBlocked}
 
 never : (t : Step) → None ≡ Some t → ⊥
@@ -148,25 +148,25 @@ screened_blocked p (c, x, out) l plan = out (stays_inside p c x.0.1 p.standing l
 
 -- ---- the actions have the closures that the places have
 
-to_place : (g i : ℕ) (ts : List (Option Step)) (j : ℕ) (t : Step) → get_or (steps_of (actions_of g i ts)) j None ≡ Some t
-    → (k : ℕ) × (get_or (map (place_without g) ts) k None ≡ Some t)
-to_place g i [] j t e = absurd (never t e)
-to_place g i (None ∷ ts) j t e = let (k, q) = to_place g (i + 1) ts j t e in (suc k, q)
-to_place g i (Some u ∷ ts) zero t e = (zero, e)
-to_place g i (Some u ∷ ts) (suc j) t e = let (k, q) = to_place g (i + 1) ts j t e in (suc k, q)
+to_place : (i : ℕ) (ts : List (Option Step)) (j : ℕ) (t : Step) → get_or (steps_of (actions_of i ts)) j None ≡ Some t
+    → (k : ℕ) × (get_or ts k None ≡ Some t)
+to_place i [] j t e = absurd (never t e)
+to_place i (None ∷ ts) j t e = let (k, q) = to_place (i + 1) ts j t e in (suc k, q)
+to_place i (Some u ∷ ts) zero t e = (zero, e)
+to_place i (Some u ∷ ts) (suc j) t e = let (k, q) = to_place (i + 1) ts j t e in (suc k, q)
 
-to_action : (g i : ℕ) (ts : List (Option Step)) (k : ℕ) (t : Step) → get_or (map (place_without g) ts) k None ≡ Some t
-    → (j : ℕ) × (get_or (steps_of (actions_of g i ts)) j None ≡ Some t)
-to_action g i [] k t e = absurd (never t e)
-to_action g i (None ∷ ts) zero t e = absurd (never t e)
-to_action g i (None ∷ ts) (suc k) t e = to_action g (i + 1) ts k t e
-to_action g i (Some u ∷ ts) zero t e = (zero, e)
-to_action g i (Some u ∷ ts) (suc k) t e = let (j, q) = to_action g (i + 1) ts k t e in (suc j, q)
+to_action : (i : ℕ) (ts : List (Option Step)) (k : ℕ) (t : Step) → get_or ts k None ≡ Some t
+    → (j : ℕ) × (get_or (steps_of (actions_of i ts)) j None ≡ Some t)
+to_action i [] k t e = absurd (never t e)
+to_action i (None ∷ ts) zero t e = absurd (never t e)
+to_action i (None ∷ ts) (suc k) t e = to_action (i + 1) ts k t e
+to_action i (Some u ∷ ts) zero t e = (zero, e)
+to_action i (Some u ∷ ts) (suc k) t e = let (j, q) = to_action (i + 1) ts k t e in (suc j, q)
 
-pub closure_places : (g : ℕ) (ts : List (Option Step)) (s c : ℕ) → Closure (steps_of (actions_of g 0 ts)) s c → Closure (map (place_without g) ts) s c
-closure_places g ts s c x =
-    let there : (d : ℕ) → Under (steps_of (actions_of g 0 ts)) d → Under (map (place_without g) ts) d =
-    λ d u k t e. (let (j, q) = to_action g 0 ts k t e in u j t q) in
-    let back : (d : ℕ) → Under (map (place_without g) ts) d → Under (steps_of (actions_of g 0 ts)) d =
-    λ d u j t e. (let (k, q) = to_place g 0 ts j t e in u k t q) in
+pub closure_places : (ts : List (Option Step)) (s c : ℕ) → Closure (steps_of (actions_of 0 ts)) s c → Closure ts s c
+closure_places ts s c x =
+    let there : (d : ℕ) → Under (steps_of (actions_of 0 ts)) d → Under ts d =
+    λ d u k t e. (let (j, q) = to_action 0 ts k t e in u j t q) in
+    let back : (d : ℕ) → Under ts d → Under (steps_of (actions_of 0 ts)) d =
+    λ d u j t e. (let (k, q) = to_place 0 ts j t e in u k t q) in
     ((x.0.0, there c x.0.1), λ d h. x.1 d (h.0, back d h.1))

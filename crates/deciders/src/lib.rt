@@ -2,18 +2,17 @@
 
 #![tactic(auto)]
 
-mod action;
 mod answer;
 mod backward;
-mod climb;
 mod closure;
 mod decider;
 mod forward;
-mod index;
 mod limits;
+mod listing;
 mod row;
 mod screen;
 mod search;
+mod struck;
 mod theorems;
 
 pub use answer::{DeciderFault, Verdict};

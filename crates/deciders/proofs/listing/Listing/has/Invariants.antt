@@ -1,0 +1,9 @@
+use Rattle.deciders.specs.Rows.{entries}
+use Rattle.deciders.proofs.Chains.{Looking}
+use Rattle.deciders.proofs.listing.Listing.has.Given as goal
+
+abbrev pub invariant-loop-row : goal.invariant-loop-row
+invariant-loop-row l = Looking (entries l.self.rows.now l.self.count) l.wanted l.link
+
+abbrev pub decreases-loop-row : goal.decreases-loop-row
+decreases-loop-row l = l.link
