@@ -223,10 +223,10 @@ module _ {f : Successor} {Wanted : ℕ → Type 0} {ws : List Action} {start m :
 
 -- ---- the first row
 
-module _ (f : Successor) (Wanted : ℕ → Type 0) (ws : List Action) (start : ℕ) (sheet : List Row) (some : 0 < length sheet) where
+module _ (f : Successor) (Wanted : ℕ → Type 0) (ws : List Action) (start parent place : ℕ) (sheet : List Row) (some : 0 < length sheet) where
   -- the first row
   abbrev pub first : Row
-  first = record { set = start; parent = 0; place = 0 }
+  first = record { set = start; parent = parent; place = place }
 
   abbrev pub begun : List Row
   begun = set sheet 0 first

@@ -22,4 +22,7 @@ pub use forward::Forward;
 pub use limits::{MAX_PLACES, MAX_ROWS};
 pub use row::Row;
 pub use screen::Screen;
-pub use theorems::{backward_finds_what_leads_to_the_order, screens_block_only_what_is_blocked};
+pub use theorems::{
+    backward_finds_what_leads_to_the_order, faults_are_equal_by_set_and_mark,
+    screens_block_only_what_is_blocked,
+};

@@ -75,8 +75,7 @@ impl<'a> Listing<'a> {
         let start = D::start(struck);
         self.add(Row {
             set: start,
-            parent: 0,
-            place: 0,
+            ..Row::default()
         })?;
         if D::is_wanted(struck, start) {
             return Ok(Some(0));

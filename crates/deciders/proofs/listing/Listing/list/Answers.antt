@@ -7,7 +7,7 @@ pub returns-then-is_wanted : goal.returns-then-is_wanted
 returns-then-is_wanted g c =
     let s = c.args.self.now in
     rw (c.in_ok-add.ensures.rows, c.in_ok-add.ensures.count, c.in_ok-add.ensures.number.0, c.requires.none, c.start-start.ensures)
-    (start_goal g.D.Direction.makes (g.D.Direction.wants c.args.struck.now) c.args.struck.now.actions.items (g.D.Direction.start_of c.args.struck.now) s.rows.now c.requires.some
+    (start_goal g.D.Direction.makes (g.D.Direction.wants c.args.struck.now) c.args.struck.now.actions.items (g.D.Direction.start_of c.args.struck.now) _ _ s.rows.now c.requires.some
     (rw c.start-start.ensures at (c.if-is_wanted.ensures.holds tt)))
 
 pub returns-in_err-row : goal.returns-in_err-row
