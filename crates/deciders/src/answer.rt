@@ -18,7 +18,7 @@ pub enum Verdict {
 }
 
 /// Why a decider has no answer.
-#[derive(Clone, Copy, PartialEq, Eq, Debug)]
+#[derive(Clone, Copy, Debug, PartialEq, Eq)]
 pub enum DeciderFault {
     /// The problem with this set struck out is outside the reach of the decider with this mark.
     BeyondReach { set: Facts, mark: u8 },

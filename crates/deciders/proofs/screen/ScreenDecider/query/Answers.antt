@@ -1,8 +1,7 @@
 use Rattle.std.proofs.Common.{ℕ, length, refl, subst, inl, inr}
 use Rattle.rules.specs.Sets.{◌⊆◌}
 use Rattle.rules.specs.Planning.{Task, task, strike}
-use Rattle.deciders.specs.Closures.{Closure}
-use Rattle.deciders.specs.Struck.{steps_of, struck_out}
+use Rattle.deciders.specs.declared.struck.StruckOut.{StruckOut}
 use Rattle.deciders.specs.Reaches.{ScreenReach, ScreenedOut}
 use Rattle.deciders.proofs.Closures.{closure_places, screened_blocked}
 use Rattle.deciders.proofs.Screens.{answers_by, passed, oversized}
@@ -13,7 +12,8 @@ pub returns-then-not-is_subset-clause-answer : goal.returns-then-not-is_subset-c
 returns-then-not-is_subset-clause-answer g c =
     let q : Task = strike (task c.args.problem.now) c.args.strike in
     let closure = closure_places q.steps q.standing c.closure.result (rw c.new-struck.ensures at c.closure.ensures) in
-    let out : ScreenedOut q = (c.closure.result, closure, rw c.new-struck.ensures at c.if-not-is_subset.ensures.fails) in
+    let P : StruckOut → Type 0 = λ s. s.order ⊆ c.closure.result → ⊥ in
+    let out : ScreenedOut q = (c.closure.result, closure, subst P c.new-struck.ensures c.if-not-is_subset.ensures.fails) in
     ((c.if-sizes_fit.ensures.holds tt, inr out), (λ (l, plan). screened_blocked q out l plan), refl)
 
 pub returns-clause-answer : goal.returns-clause-answer
