@@ -63,12 +63,12 @@ impl<'a> Listing<'a> {
     pub(crate) fn has(&self, wanted: Facts) -> bool
         ensures { result ≡ listed wanted (entries self.now.rows.now self.now.count) }
     {
-        let mut link = self.heads[hash(wanted)];
+        let mut link = self.heads[hash(wanted)] as usize;
         while let Some(row) = link.checked_sub(1) {
-            if self.rows[row as usize].set == wanted {
+            if self.rows[row].set == wanted {
                 return true;
             }
-            link = self.links[row as usize];
+            link = self.links[row] as usize;
         }
         false
     }

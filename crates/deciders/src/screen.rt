@@ -34,7 +34,8 @@ impl<D: Decider> Decider for Screen<D> {
         book: &mut [u8],
     ) -> Result<Verdict, DeciderFault> {
         if sizes_fit(sheet.len(), book.len()) {
-            let struck = StruckOut::new(problem, strike);
+            let mut struck = StruckOut::default();
+            struck.fill(problem, strike);
             if !is_subset(struck.order, struck.closure()) {
                 return Ok(Verdict::Blocked);
             }

@@ -104,7 +104,8 @@ pub(crate) fn find_way<D: Direction>(
     if !sizes_fit(sheet.len(), book.len()) {
         return Err(Unsettled);
     }
-    let struck = StruckOut::new(problem, strike);
+    let mut struck = StruckOut::default();
+    struck.fill(problem, strike);
     let mut listing = Listing::new(sheet);
     match listing.list::<D>(&struck)? {
         Some(row) => Ok(Some(listing.climb(row, book))),

@@ -28,7 +28,7 @@ impl Default for Action {
 }
 
 /// What is left of a problem once facts are struck out: what stands, what is ordered, and the steps, by rising place.
-#[derive(Drop)]
+#[derive(Default, Drop)]
 pub struct StruckOut {
     pub standing: Facts,
     pub order: Facts,
@@ -36,24 +36,21 @@ pub struct StruckOut {
 }
 
 impl StruckOut {
-    /// The problem without the facts of `strike` and the waived ones.
-    pub(crate) fn new(problem: &Problem, strike: Facts) -> StruckOut
-        ensures { result ≡ struck_out (task problem.now) strike }
+    /// Becomes the problem without the facts of `strike` and the waived ones. It is filled in its place, since it is large to move.
+    pub(crate) fn fill(&mut self, problem: &Problem, strike: Facts)
+        ensures { self.new ≡ struck_out (task problem.now) strike }
     {
         let gone = strike | problem.waived;
-        let mut actions = ArrayVec::new();
+        self.standing = difference(problem.standing.facts, gone);
+        self.order = difference(problem.order, gone);
+        self.actions.clear();
         for (place, held) in problem.table.places().iter().enumerate() {
             if let Some(step) = held {
-                actions.push(Action {
+                self.actions.push(Action {
                     step: step.without(gone),
                     place: place as u8,
                 });
             }
-        }
-        StruckOut {
-            standing: difference(problem.standing.facts, gone),
-            order: difference(problem.order, gone),
-            actions,
         }
     }
 }

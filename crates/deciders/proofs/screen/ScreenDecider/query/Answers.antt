@@ -11,9 +11,9 @@ use Rattle.deciders.proofs.screen.ScreenDecider.query.Goals.{then-sizes_fit+else
 pub returns-then-not-is_subset-clause-answer : goal.returns-then-not-is_subset-clause-answer
 returns-then-not-is_subset-clause-answer g c =
     let q : Task = strike (task c.args.problem.now) c.args.strike in
-    let closure = closure_places q.steps q.standing c.closure.result (rw c.new-struck.ensures at c.closure.ensures) in
+    let closure = closure_places q.steps q.standing c.closure.result (rw c.fill.ensures at c.closure.ensures) in
     let P : StruckOut → Type 0 = λ s. s.order ⊆ c.closure.result → ⊥ in
-    let out : ScreenedOut q = (c.closure.result, closure, subst P c.new-struck.ensures c.if-not-is_subset.ensures.fails) in
+    let out : ScreenedOut q = (c.closure.result, closure, subst P c.fill.ensures c.if-not-is_subset.ensures.fails) in
     ((c.if-sizes_fit.ensures.holds tt, inr out), (λ (l, plan). screened_blocked q out l plan), refl)
 
 pub returns-clause-answer : goal.returns-clause-answer
@@ -26,8 +26,8 @@ returns-clause-answer g c =
     let R : Task → ℕ → ℕ → ℕ → Type 0 = g.D.Decider.reach c.args.self.now.below in
     let back : ScreenReach R p x m b → R p x m b = elim c.if-sizes_fit.branch [
       | then-sizes_fit+else-not-is_subset w ↦ passed R p x m b w.closure.result
-          (closure_places q.steps q.standing w.closure.result (rw w.new-struck.ensures at w.closure.ensures))
-          (rw w.new-struck.ensures at (w.if-not-is_subset.ensures.holds tt))
+          (closure_places q.steps q.standing w.closure.result (rw w.fill.ensures at w.closure.ensures))
+          (rw w.fill.ensures at (w.if-not-is_subset.ensures.holds tt))
       | else-sizes_fit w ↦ oversized R p x m b w.if-sizes_fit.ensures.fails
     ] in
     answers_by (R p x m b) (ScreenReach R p x m b) g.D.Decider.signed p x m c.args.book.now c.query.new.book c.query.result
