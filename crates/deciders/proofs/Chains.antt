@@ -1,11 +1,11 @@
 -- The index: an empty one, one more entry, and following a chain.
-use Rattle.std.proofs.Common.{◌≡◌, ℕ, zero, suc, ◌+◌, ◌-◌, ◌<◌, ◌≤◌, true, false, eqb, List, [], ◌∷◌, ◌++◌, map, length, get_or, take, set, replicate, sym, refl, ap, ◌∙◌, subst, inl, inr, arith, length-set}
+use Rattle.std.proofs.Common.{◌≡◌, ℕ, zero, suc, ◌+◌, ◌-◌, ◌<◌, ◌≤◌, true, false, eqb, List, [], ◌∷◌, ◌++◌, map, length, get_or, take, set, replicate, Some, None, Option, add-one, sym, refl, ap, ◌∙◌, subst, inl, inr, arith, length-set}
 use Rattle.std.proofs.lemmas.Bool.{cases_eq, cases_lt, eq-eqb, ne_eqb, or_left, or_right, or_from}
 use Rattle.std.proofs.lemmas.List.{get_or_append_left, get_or_push, length_push, get_or-set_same, get_or-set_other, take_more_set, map_push, get_or-map, get_or-take, length-map, length-take-le, get_or-replicate, get_or_past, length-replicate}
 use Rattle.rules.specs.Listing.{listed}
 use Rattle.deciders.specs.declared.row.Row.{Row}
 use Rattle.deciders.specs.Rows.{no_row, row, entries}
-use Rattle.deciders.specs.Chains.{hash_of, Indexed}
+use Rattle.deciders.specs.Chains.{hash_of, linked, Indexed}
 
 -- ---- what is listed
 
@@ -43,8 +43,6 @@ zeros n i = elim (cases_lt i n) [
 
 pub index_none : Indexed (replicate 4096 0) (replicate 4096 0) []
 index_none = record {
-  head_count = length-replicate {A = ℕ} 4096 0;
-  link_count = length-replicate {A = ℕ} 4096 0;
   low = λ h. omega (arith, zeros 4096 h);
   all = λ i h. absurd (omega arith);
   alike = λ h i e. absurd (omega (arith, zeros 4096 h));
@@ -55,7 +53,7 @@ index_none = record {
 
 -- ---- one more entry
 
-module _ (heads links l : List ℕ) (s : ℕ) (x : Indexed heads links l) (fits : hash_of s < 4096) (more : length l < 4096) where
+module _ (heads links l : List ℕ) (s : ℕ) (x : Indexed heads links l) (fits : hash_of s < length heads) (more : length l < length links) where
   abbrev Head : ℕ → ℕ
   Head h = get_or (set heads (hash_of s) (length l + 1)) h 0
 
@@ -75,13 +73,13 @@ module _ (heads links l : List ℕ) (s : ℕ) (x : Indexed heads links l) (fits 
   end i e = get_or_push l s 0 i (sym e)
 
   head_same : (h : ℕ) → h ≡ hash_of s → Head h ≡ length l + 1
-  head_same h e = ap Head e ∙ get_or-set_same heads (hash_of s) (length l + 1) 0 (omega (arith, x.head_count))
+  head_same h e = ap Head e ∙ get_or-set_same heads (hash_of s) (length l + 1) 0 fits
 
   head_other : (h : ℕ) → (h ≡ hash_of s → ⊥) → Head h ≡ get_or heads h 0
   head_other h e = get_or-set_other heads (hash_of s) h (length l + 1) 0 e
 
   next_same : (i : ℕ) → i ≡ length l → Next i ≡ get_or heads (hash_of s) 0
-  next_same i e = ap Next e ∙ get_or-set_same links (length l) (get_or heads (hash_of s) 0) 0 (omega (arith, x.link_count))
+  next_same i e = ap Next e ∙ get_or-set_same links (length l) (get_or heads (hash_of s) 0) 0 more
 
   next_other : (i : ℕ) → i < length l → Next i ≡ get_or links i 0
   next_other i h = get_or-set_other links (length l) i (get_or heads (hash_of s) 0) 0 (λ e. omega arith)
@@ -134,8 +132,6 @@ module _ (heads links l : List ℕ) (s : ℕ) (x : Indexed heads links l) (fits 
 
   index_add : Indexed (set heads (hash_of s) (length l + 1)) (set links (length l) (get_or heads (hash_of s) 0)) (l ++ s ∷ [])
   index_add = record {
-    head_count = length-set heads (hash_of s) (length l + 1) ∙ x.head_count;
-    link_count = length-set links (length l) (get_or heads (hash_of s) 0) ∙ x.link_count;
     low = low';
     all = all';
     alike = alike';
@@ -144,16 +140,18 @@ module _ (heads links l : List ℕ) (s : ℕ) (x : Indexed heads links l) (fits 
     alike_next = alike_next';
   }
 
-pub index_more : (heads links : List ℕ) (sheet : List Row) (n : ℕ) (r : Row) (h : ℕ) → Indexed heads links (entries sheet n) → n < length sheet → n < 4096
-    → h ≡ hash_of r.set → h < 4096
-    → Indexed (set heads h (n + 1)) (set links n (get_or heads h 0)) (entries (set sheet n r) (n + 1))
-index_more heads links sheet n r h x fits more e k =
+hash_small : (s : ℕ) → hash_of s < 4096
+unfolding hash_of
+hash_small s = omega arith
+
+pub index_more : (heads links : List ℕ) (sheet : List Row) (n : ℕ) (r : Row) → Indexed heads links (entries sheet n) → n < length sheet → n < length links → length heads ≡ 4096
+    → Indexed (set heads (hash_of r.set) (n + 1)) (set links n (get_or heads (hash_of r.set) 0)) (entries (set sheet n r) (n + 1))
+index_more heads links sheet n r x fits more k =
     let l : List ℕ = entries sheet n in
     let q : length l ≡ n = entries_length sheet n (omega arith) in
-    let i = index_add heads links l r.set x (omega arith) (omega arith) in
-    let P : ℕ → ℕ → List ℕ → Type 0 = λ m a b. Indexed (set heads a (m + 1)) (set links m (get_or heads a 0)) b in
-    subst (λ b. P n h b) (sym (entries_more sheet n r fits))
-    (subst (λ a. P n a (l ++ r.set ∷ [])) (sym e) (subst (λ m. P m (hash_of r.set) (l ++ r.set ∷ [])) q i))
+    let i = index_add heads links l r.set x (omega (arith, hash_small r.set)) (omega arith) in
+    let P : ℕ → List ℕ → Type 0 = λ m b. Indexed (set heads (hash_of r.set) (m + 1)) (set links m (get_or heads (hash_of r.set) 0)) b in
+    subst (P n) (sym (entries_more sheet n r fits)) (subst (λ m. P m (l ++ r.set ∷ [])) q i)
 
 -- ---- a lookup: link is how far the chain has been followed
 
@@ -182,14 +180,33 @@ module _ (heads links l : List ℕ) (s : ℕ) (x : Indexed heads links l) where
         ];
       }
 
+-- the link to this row, or to none
+abbrev pub link_to : Option ℕ → ℕ
+link_to None = 0
+link_to (Some i) = i + 1
+
+link_to-linked : (n : ℕ) → link_to (linked n) ≡ n
+link_to-linked zero = refl
+link_to-linked (suc i) = add-one i
+
 -- the same, over the rows that the code reads
-module _ (heads links : List ℕ) (sheet : List Row) (n s link : ℕ) (fits : n ≤ length sheet) (k : Looking (entries sheet n) s link) where
-  pub found : (i : ℕ) → i < n → (row sheet i).set ≡ s → true ≡ listed s (entries sheet n)
-  found i h e = sym (listed_at s (entries sheet n) i (omega (arith, entries_length sheet n fits)) (entries_at sheet n i fits h ∙ e))
+module _ (heads links : List ℕ) (sheet : List Row) (n s : ℕ) (fits : n ≤ length sheet) (x : Indexed heads links (entries sheet n)) where
+  pub looking : (o : Option ℕ) → o ≡ linked (get_or heads (hash_of s) 0) → Looking (entries sheet n) s (link_to o)
+  looking o e = subst (Looking (entries sheet n) s) (sym (ap link_to e ∙ link_to-linked (get_or heads (hash_of s) 0))) (look heads links (entries sheet n) s x (hash_of s) refl)
 
-  pub missing : link ≡ 0 → false ≡ listed s (entries sheet n)
-  missing h = sym (listed_not s (entries sheet n) (λ i l e. omega (arith, k.left i l e)))
+  module _ (o : Option ℕ) (k : Looking (entries sheet n) s (link_to o)) where
+    pub missing : o ≡ None → false ≡ listed s (entries sheet n)
+    missing e = sym (listed_not s (entries sheet n) (λ i l q. omega (arith, k.left i l q, ap link_to e)))
 
-  pub going_on : (i : ℕ) → Indexed heads links (entries sheet n) → link ≡ i + 1 → i < n → ((row sheet i).set ≡ s → ⊥)
-      → Looking (entries sheet n) s (get_or links i 0)
-  going_on i x at h ne = look_on heads links (entries sheet n) s x link i k at (λ e. ne (sym (entries_at sheet n i fits h) ∙ e))
+    module _ (i : ℕ) (is : o ≡ Some i) where
+      pub in_count : i < n
+      in_count = omega (arith, k.low, ap link_to is, entries_length sheet n fits)
+
+      pub found : (row sheet i).set ≡ s → true ≡ listed s (entries sheet n)
+      found e = sym (listed_at s (entries sheet n) i (omega (arith, in_count, entries_length sheet n fits)) (entries_at sheet n i fits in_count ∙ e))
+
+      pub going_on : (o' : Option ℕ) → o' ≡ linked (get_or links i 0) → ((row sheet i).set ≡ s → ⊥) → Looking (entries sheet n) s (link_to o')
+      going_on o' e ne =
+          let at : link_to o ≡ i + 1 = ap link_to is in
+          subst (Looking (entries sheet n) s) (sym (ap link_to e ∙ link_to-linked (get_or links i 0)))
+          (look_on heads links (entries sheet n) s x (link_to o) i k at (λ q. ne (sym (entries_at sheet n i fits in_count) ∙ q)))

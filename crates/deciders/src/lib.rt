@@ -7,6 +7,7 @@ mod backward;
 mod closure;
 mod decider;
 mod forward;
+mod index;
 mod limits;
 mod listing;
 mod row;

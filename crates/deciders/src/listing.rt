@@ -1,12 +1,12 @@
 //! A listing of entries on the rows of a sheet.
 
-ghost use Rattle.std.specs.Prelude.{◌≡◌, ℕ, ◌+◌, ◌<◌, ◌≤◌, length, take, drop, IfSome, IfNone, IfOk, OnErr, slice_set};
+ghost use Rattle.std.specs.Prelude.{◌≡◌, ℕ, ◌+◌, ◌<◌, ◌≤◌, [], length, take, drop, IfSome, IfNone, IfOk, OnErr, slice_set};
 ghost use Rattle.std.proofs.Props.{props};
 ghost use Rattle.rules.specs.Listing.{listed};
 ghost use Rattle.deciders.specs.Rows.{row as row_of, entries, Climbs};
-ghost use Rattle.deciders.specs.Chains.{hash_of, Indexed};
+ghost use Rattle.deciders.specs.Chains.{Indexed};
 
-use crate::limits::MAX_ROWS;
+use crate::index::Index;
 use crate::row::Row;
 use rules::Facts;
 
@@ -14,40 +14,29 @@ use rules::Facts;
 #[derive(Clone, Copy, Debug)]
 pub struct Unsettled;
 
-/// The entries on the first rows of a sheet. An index over them makes it cost little to ask whether a set is listed: for
-/// each hash a chain of the rows whose sets have it, the newest first. A link is a row's number and 1, or 0 at the end.
+/// The entries on the first rows of a sheet, with an index over them, so that it costs little to ask whether a set is listed.
 #[derive(Drop)]
 pub struct Listing<'a> {
     rows: &'a mut [Row],
     count: usize,
-    heads: [u16; MAX_ROWS],
-    links: [u16; MAX_ROWS],
+    index: &'a mut Index,
     ghost fits: { count ≤ length rows.now },
     ghost small: { length rows.now ≤ 4096 },
-    ghost indexed: { Indexed heads links (entries rows.now count) } by { Prim.hlevel props },
-}
-
-/// The top 12 bits of the product with the golden ratio, which spread well.
-#[tactic(auto, unfolding(crate::specs::Chains::hash_of))]
-fn hash(set: Facts) -> usize
-    ensures is { result ≡ hash_of set }
-    ensures fits { result < 4096 }
-{
-    (set.wrapping_mul(0x9E37_79B9) >> 20) as usize
+    ghost indexed: { Indexed index.now.heads index.now.links (entries rows.now count) } by { Prim.hlevel props },
 }
 
 impl<'a> Listing<'a> {
     /// A listing of no entries on these rows.
-    pub(crate) fn new(rows: &'a mut [Row]) -> Listing<'a>
-        requires { length rows.old ≤ 4096 }
+    pub(crate) fn new(rows: &'a mut [Row], index: &'a mut Index) -> Listing<'a>
+        requires small { length rows.old ≤ 4096 }
+        requires none { Indexed index.old.heads index.old.links [] }
         ensures rows { result.rows.now ≡ rows.old }
         ensures none { result.count ≡ 0 }
     {
         Listing {
             rows,
             count: 0,
-            heads: [0; MAX_ROWS],
-            links: [0; MAX_ROWS],
+            index,
         }
     }
 
@@ -63,12 +52,12 @@ impl<'a> Listing<'a> {
     pub(crate) fn has(&self, wanted: Facts) -> bool
         ensures { result ≡ listed wanted (entries self.now.rows.now self.now.count) }
     {
-        let mut link = self.heads[hash(wanted)] as usize;
-        while let Some(row) = link.checked_sub(1) {
+        let mut next = self.index.first(wanted);
+        while let Some(row) = next {
             if self.rows[row].set == wanted {
                 return true;
             }
-            link = self.links[row] as usize;
+            next = self.index.next(row);
         }
         false
     }
@@ -86,9 +75,7 @@ impl<'a> Listing<'a> {
             return Err(Unsettled);
         }
         self.rows[n] = row;
-        let head = &mut self.heads[hash(row.set)];
-        self.links[n] = *head;
-        *head = (n + 1) as u16;
+        self.index.enter(n, row.set);
         self.count = n + 1;
         Ok(n)
     }

@@ -8,6 +8,7 @@ ghost use Rattle.deciders.specs.Rows.{row as row_of, entries, Sound};
 ghost use Rattle.deciders.specs.Struck.{struck_out};
 ghost use Rattle.deciders.specs.Searches.{ByAction, Away, Expands, Lists, Finds};
 
+use crate::index::Index;
 use crate::limits::sizes_fit;
 use crate::listing::{Listing, Unsettled};
 use crate::row::Row;
@@ -106,7 +107,8 @@ pub(crate) fn find_way<D: Direction>(
     }
     let mut struck = StruckOut::default();
     struck.fill(problem, strike);
-    let mut listing = Listing::new(sheet);
+    let mut index = Index::new();
+    let mut listing = Listing::new(sheet, &mut index);
     match listing.list::<D>(&struck)? {
         Some(row) => Ok(Some(listing.climb(row, book))),
         None => Ok(None),

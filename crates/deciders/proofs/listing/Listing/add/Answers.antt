@@ -9,5 +9,6 @@ invariant_of-self c =
     record {
       fits = omega (arith, len);
       small = omega (arith, len);
-      indexed = index_more s.heads s.links s.rows.now s.count c.args.row c.hash.result s.indexed (omega arith) (omega arith) c.hash.ensures.is c.hash.ensures.fits;
+      indexed = rw (c.enter.ensures.heads, c.enter.ensures.links)
+          (index_more s.index.now.heads s.index.now.links s.rows.now s.count c.args.row s.indexed (omega arith) (omega arith) s.index.now.head_count);
     }

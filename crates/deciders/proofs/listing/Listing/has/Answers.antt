@@ -1,27 +1,24 @@
-use Rattle.std.proofs.Common.{◌≡◌, ◌+◌, ◌<◌, arith}
-use Rattle.deciders.specs.Rows.{entries}
-use Rattle.deciders.proofs.Chains.{look, entries_length, found, missing, going_on}
+use Rattle.deciders.proofs.Chains.{looking, missing, found, going_on}
 use Rattle.deciders.proofs.listing.Listing.has.Goals as goal
 
-pub loop-row-init : goal.loop-row-init
-loop-row-init c =
+pub loop-next-init : goal.loop-next-init
+loop-next-init c =
     let s = c.args.self.now in
-    look s.heads s.links (entries s.rows.now s.count) c.args.wanted s.indexed c.hash.result c.hash.ensures.is
+    looking s.index.now.heads s.index.now.links s.rows.now s.count c.args.wanted s.fits s.indexed c.first-next.result c.first-next.ensures
 
 pub returns-then-self-row : goal.returns-then-self-row
 returns-then-self-row c =
     let s = c.args.self.now in
-    let in_count : c.in-Some.row < s.count = omega (arith, c.in-Some.ensures, c.loop-row.invariant.low, entries_length s.rows.now s.count s.fits) in
-    found s.heads s.links s.rows.now s.count c.args.wanted c.loop-row.link s.fits c.loop-row.invariant c.in-Some.row in_count c.if-self-row.true
+    found s.index.now.heads s.index.now.links s.rows.now s.count c.args.wanted s.fits s.indexed c.loop-next.next c.loop-next.invariant c.in-Some.row c.in-Some.is
+    c.if-self-row.true
 
-pub loop-row-preserved : goal.loop-row-preserved
-loop-row-preserved c =
+pub loop-next-preserved : goal.loop-next-preserved
+loop-next-preserved c =
     let s = c.args.self.now in
-    let at : c.loop-row.link ≡ c.in-Some.row + 1 = omega (arith, c.in-Some.ensures) in
-    let in_count : c.in-Some.row < s.count = omega (arith, c.loop-row.invariant.low, entries_length s.rows.now s.count s.fits) in
-    going_on s.heads s.links s.rows.now s.count c.args.wanted c.loop-row.link s.fits c.loop-row.invariant c.in-Some.row s.indexed at in_count c.if-self-row.false
+    going_on s.index.now.heads s.index.now.links s.rows.now s.count c.args.wanted s.fits s.indexed c.loop-next.next c.loop-next.invariant c.in-Some.row c.in-Some.is
+    c.next-next.result c.next-next.ensures c.if-self-row.false
 
 pub returns : goal.returns
 returns c =
     let s = c.args.self.now in
-    missing s.heads s.links s.rows.now s.count c.args.wanted c.loop-row.link s.fits c.loop-row.invariant (omega (arith, c.in_default.ensures))
+    missing s.index.now.heads s.index.now.links s.rows.now s.count c.args.wanted s.fits s.indexed c.loop-next.next c.loop-next.invariant c.in_default.is
