@@ -9,7 +9,7 @@ ghost use Rattle.deciders.specs.Struck.{struck_out};
 ghost use Rattle.deciders.specs.Searches.{ByAction, Away, Expands, Lists, Finds};
 
 use crate::index::Index;
-use crate::limits::sizes_fit;
+use crate::limits::{MAX_ROWS, sizes_fit};
 use crate::listing::{Listing, Unsettled};
 use crate::row::Row;
 use crate::struck::StruckOut;
@@ -81,12 +81,13 @@ impl<'a> Listing<'a> {
         if D::is_wanted(struck, start) {
             return Ok(Some(0));
         }
-        let mut at = 0;
-        while let Some(entry) = self.get(at) {
+        for at in 0..MAX_ROWS {
+            let Some(entry) = self.get(at) else {
+                break;
+            };
             if let Some(row) = self.expand::<D>(struck, at, entry)? {
                 return Ok(Some(row));
             }
-            at += 1;
         }
         Ok(None)
     }

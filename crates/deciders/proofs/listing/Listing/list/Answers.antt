@@ -15,16 +15,16 @@ returns-in_err-row g c =
     let p = err_from_is_err_and c.from_residual-in_err-row.result c.from_residual-in_err-row.ensures.1 in
     let t = c.expand.new.self in
     let e = c.in-Some.ensures.filled in
-    rw p.1 (turn_full c.loop-entry.invariant e.0 c.in-Some.entry e.1 t.rows.now t.count p.0 c.in_err-row.ensures)
+    rw p.1 (turn_full c.loop-at.invariant e.0 c.in-Some.entry e.1 t.rows.now t.count p.0 c.in_err-row.ensures)
 
 pub returns-in-Some-2 : goal.returns-in-Some-2
 returns-in-Some-2 g c =
     let t = c.expand.new.self in
     let e = c.in-Some.ensures.filled in
-    turn_goal c.loop-entry.invariant e.0 c.in-Some.entry e.1 t.rows.now t.count c.in-Some-2.row (rw c.in-Some-2.is at c.in_ok-row.ensures)
+    turn_goal c.loop-at.invariant e.0 c.in-Some.entry e.1 t.rows.now t.count c.in-Some-2.row (rw c.in-Some-2.is at c.in_ok-row.ensures)
 
-pub loop-entry-preserved : goal.loop-entry-preserved
-loop-entry-preserved g c =
+pub loop-at-preserved : goal.loop-at-preserved
+loop-at-preserved g c =
     let t = c.expand.new.self in
     let e = c.in-Some.ensures.filled in
-    turn_more c.loop-entry.invariant e.0 c.in-Some.entry e.1 t.rows.now t.count (rw c.in_default-2.is at c.in_ok-row.ensures)
+    turn_more c.loop-at.invariant e.0 c.in-Some.entry e.1 t.rows.now t.count (rw c.in_default-2.is at c.in_ok-row.ensures)
