@@ -1,9 +1,7 @@
 -- The steps that are left once facts are struck out: how their list is made, and that it lists what the places list.
-use Rattle.std.proofs.Common.{◌≡◌, ℕ, zero, suc, ◌+◌, ◌-◌, ◌<◌, ◌≤◌, cond, ltb, List, [], ◌∷◌, ◌++◌, map, length, get_or, drop, Some, None, Option, sym, refl, ap, ◌∙◌, arith}
-use Rattle.std.proofs.lemmas.List.{at_drop_more, at_drop_all, append-nil}
-use lib.Seq.{append_snoc}
+use Rattle.std.proofs.Common.{◌≡◌, ℕ, zero, suc, ◌+◌, ◌-◌, ◌<◌, ◌≤◌, cond, ltb, List, [], ◌∷◌, map, length, get_or, drop, Some, None, Option, refl, ap, ◌∙◌, arith}
 use Rattle.rules.specs.declared.step.Step.{Step}
-use Rattle.rules.specs.Planning.{place_without, step_without}
+use Rattle.rules.specs.Planning.{place_without}
 use Rattle.rules.specs.Listing.{Successor, adding_made, expanded, listing}
 use Rattle.deciders.specs.declared.struck.Action.{Action}
 use Rattle.deciders.specs.Struck.{actions_of, steps_of}
@@ -14,20 +12,6 @@ use Rattle.deciders.specs.Searches.{no_action}
 -- the actions at the places from i on, once g is struck out
 abbrev pub actions_from : ℕ → List (Option Step) → ℕ → List Action
 actions_from g ts i = actions_of i (map (place_without g) (drop i ts))
-
-pub from_none : (g i : ℕ) (ts : List (Option Step)) → i < length ts → get_or ts i None ≡ None → actions_from g ts i ≡ actions_from g ts (i + 1)
-from_none g i ts h e =
-    at_drop_more (λ (v : List (Option Step)). actions_of i (map (place_without g) v)) ts i None h
-    ∙ ap (λ (o : Option Step). actions_of i (map (place_without g) (o ∷ drop (i + 1) ts))) e
-
-pub from_some : (g i : ℕ) (ts : List (Option Step)) (t : Step) → i < length ts → get_or ts i None ≡ Some t
-    → actions_from g ts i ≡ record { step = step_without g t; place = i } ∷ actions_from g ts (i + 1)
-from_some g i ts t h e =
-    at_drop_more (λ (v : List (Option Step)). actions_of i (map (place_without g) v)) ts i None h
-    ∙ ap (λ (o : Option Step). actions_of i (map (place_without g) (o ∷ drop (i + 1) ts))) e
-
-pub from_end : (g i : ℕ) (ts : List (Option Step)) → length ts ≤ i → actions_from g ts i ≡ []
-from_end g i ts h = at_drop_all (λ (v : List (Option Step)). actions_of i (map (place_without g) v)) ts i h
 
 -- ---- the actions list what the places list
 

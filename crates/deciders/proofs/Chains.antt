@@ -1,11 +1,11 @@
 -- The index: an empty one, one more entry, and following a chain.
-use Rattle.std.proofs.Common.{◌≡◌, ℕ, zero, suc, ◌+◌, ◌-◌, ◌<◌, ◌≤◌, true, false, eqb, List, [], ◌∷◌, ◌++◌, map, length, get_or, take, set, replicate, Some, None, Option, add-one, sym, refl, ap, ◌∙◌, subst, inl, inr, arith, length-set}
+use Rattle.std.proofs.Common.{◌≡◌, ℕ, zero, suc, ◌+◌, ◌<◌, ◌≤◌, true, false, eqb, List, [], ◌∷◌, ◌++◌, map, length, get_or, take, set, replicate, Some, None, Option, sym, refl, ap, ◌∙◌, subst, inl, inr, arith}
 use Rattle.std.proofs.lemmas.Bool.{cases_eq, cases_lt, eq-eqb, ne_eqb, or_left, or_right, or_from}
 use Rattle.std.proofs.lemmas.List.{get_or_append_left, get_or_push, length_push, get_or-set_same, get_or-set_other, take_more_set, map_push, get_or-map, get_or-take, length-map, length-take-le, get_or-replicate, get_or_past, length-replicate}
 use Rattle.rules.specs.Listing.{listed}
 use Rattle.deciders.specs.declared.row.Row.{Row}
 use Rattle.deciders.specs.Rows.{no_row, row, entries}
-use Rattle.deciders.specs.Chains.{hash_of, linked, Indexed}
+use Rattle.deciders.specs.Chains.{hash_of, Indexed}
 
 -- ---- what is listed
 
@@ -160,40 +160,13 @@ pub record Looking (l : List ℕ) (s link : ℕ) : Type 0 where
   pub alike : (i : ℕ) → link ≡ i + 1 → hash_of (get_or l i 0) ≡ hash_of s
   pub left : (j : ℕ) → j < length l → get_or l j 0 ≡ s → j < link
 
-module _ (heads links l : List ℕ) (s : ℕ) (x : Indexed heads links l) where
-  pub look : (h : ℕ) → h ≡ hash_of s → Looking l s (get_or heads h 0)
-  look h e = record {
-    low = x.low h;
-    alike = λ i k. x.alike h i k ∙ e;
-    left = λ j k q. omega (arith, x.all j k, ap (λ (n : ℕ). get_or heads n 0) (ap hash_of q ∙ sym e));
-  }
-
-  pub look_on : (link i : ℕ) → Looking l s link → link ≡ i + 1 → (get_or l i 0 ≡ s → ⊥) → Looking l s (get_or links i 0)
-  look_on link i k h n =
-      let e : hash_of (get_or l i 0) ≡ hash_of s = k.alike i h in
-      record {
-        low = omega (arith, x.falls i (omega (arith, k.low)), k.low);
-        alike = λ j q. x.alike_next i j (omega (arith, k.low)) q ∙ e;
-        left = λ j j<l q. elim (cases_eq j i) [
-          | inl u ↦ absurd (n (ap (λ (m : ℕ). get_or l m 0) (sym u) ∙ q))
-          | inr u ↦ x.rest i j (omega (arith, k.left j j<l q)) (omega (arith, k.low)) (ap hash_of q ∙ sym e)
-        ];
-      }
-
 -- the link to this row, or to none
 abbrev pub link_to : Option ℕ → ℕ
 link_to None = 0
 link_to (Some i) = i + 1
 
-link_to-linked : (n : ℕ) → link_to (linked n) ≡ n
-link_to-linked zero = refl
-link_to-linked (suc i) = add-one i
-
 -- the same, over the rows that the code reads
 module _ (heads links : List ℕ) (sheet : List Row) (n s : ℕ) (fits : n ≤ length sheet) (x : Indexed heads links (entries sheet n)) where
-  pub looking : (o : Option ℕ) → o ≡ linked (get_or heads (hash_of s) 0) → Looking (entries sheet n) s (link_to o)
-  looking o e = subst (Looking (entries sheet n) s) (sym (ap link_to e ∙ link_to-linked (get_or heads (hash_of s) 0))) (look heads links (entries sheet n) s x (hash_of s) refl)
-
   module _ (o : Option ℕ) (k : Looking (entries sheet n) s (link_to o)) where
     pub missing : o ≡ None → false ≡ listed s (entries sheet n)
     missing e = sym (listed_not s (entries sheet n) (λ i l q. omega (arith, k.left i l q, ap link_to e)))
@@ -204,9 +177,3 @@ module _ (heads links : List ℕ) (sheet : List Row) (n s : ℕ) (fits : n ≤ l
 
       pub found : (row sheet i).set ≡ s → true ≡ listed s (entries sheet n)
       found e = sym (listed_at s (entries sheet n) i (omega (arith, in_count, entries_length sheet n fits)) (entries_at sheet n i fits in_count ∙ e))
-
-      pub going_on : (o' : Option ℕ) → o' ≡ linked (get_or links i 0) → ((row sheet i).set ≡ s → ⊥) → Looking (entries sheet n) s (link_to o')
-      going_on o' e ne =
-          let at : link_to o ≡ i + 1 = ap link_to is in
-          subst (Looking (entries sheet n) s) (sym (ap link_to e ∙ link_to-linked (get_or links i 0)))
-          (look_on heads links (entries sheet n) s x (link_to o) i k at (λ q. ne (sym (entries_at sheet n i fits in_count) ∙ q)))

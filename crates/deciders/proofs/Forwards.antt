@@ -1,5 +1,5 @@
 -- What a forward search says of plans.
-use Rattle.std.proofs.Common.{◌≡◌, ℕ, ◌+◌, ◌≤◌, List, ◌++◌, reverse, length, take, drop, ap, ◌∙◌, arith}
+use Rattle.std.proofs.Common.{◌≡◌, ℕ, ◌≤◌, List, ◌++◌, reverse, length, take, drop, ap, ◌∙◌}
 use Rattle.std.proofs.lemmas.List.{take_at, drop_at, length-reverse, length-take-le}
 use Rattle.rules.specs.Sets.{◌⊆◌}
 use Rattle.rules.specs.Planning.{Task, Plan}

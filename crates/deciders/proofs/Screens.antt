@@ -1,6 +1,5 @@
 -- What a screen answers, and what its reach is made of.
-use Rattle.std.proofs.Common.{◌≡◌, ℕ, List, Ok, Err, Option, Result, subst, inl, inr}
-use Rattle.rules.specs.declared.step.Step.{Step}
+use Rattle.std.proofs.Common.{◌≡◌, ℕ, List, Ok, Err, Result, subst, inl, inr}
 use Rattle.rules.specs.Sets.{◌⊆◌}
 use Rattle.rules.specs.Planning.{Task, strike}
 use Rattle.deciders.specs.declared.answer.Verdict.{Verdict}
@@ -29,8 +28,3 @@ module _ (R : Task → ℕ → ℕ → ℕ → Type 0) (p : Task) (x m b : ℕ) 
   -- outside the size limits it reaches nothing
   pub oversized : (Sized m b → ⊥) → ScreenReach R p x m b → R p x m b
   oversized large h = absurd (large h.0)
-
-  -- two screens have one reach where what is below them has
-  pub screens_by : (S : Task → ℕ → ℕ → ℕ → Type 0) → (R p x m b → S p x m b) → ScreenReach R p x m b → ScreenReach S p x m b
-  screens_by S to (sized, inl r) = (sized, inl (to r))
-  screens_by S to (sized, inr out) = (sized, inr out)

@@ -1,5 +1,5 @@
 -- What a sheet says of the rows that settle a search, and the paths that its rows are.
-use Rattle.std.proofs.Common.{◌≡◌, ℕ, ◌+◌, ◌<◌, ◌≤◌, List, [], ◌∷◌, reverse, length, get_or, Some, None, Ok, Err, Option, sym, ap, ◌∙◌, subst, inl, inr, arith}
+use Rattle.std.proofs.Common.{◌≡◌, ℕ, ◌<◌, ◌≤◌, List, [], ◌∷◌, reverse, length, get_or, Some, None, Ok, Err, Option, sym, ap, ◌∙◌, subst, inl, inr, arith}
 use mathlib.Core.List.{reverse-append}
 use Rattle.rules.specs.declared.step.Step.{Step}
 use Rattle.rules.specs.Listing.{Successor, listing, Whole, Settles, Path}
@@ -7,10 +7,9 @@ use Rattle.rules.proofs.Listing.{listing_stays, path_push}
 use Rattle.deciders.specs.declared.row.Row.{Row}
 use Rattle.deciders.specs.declared.struck.Action.{Action}
 use Rattle.deciders.specs.declared.listing.Unsettled.{Unsettled}
-use Rattle.deciders.specs.Answers.{Sized}
 use Rattle.deciders.specs.Rows.{row, entries, Sound, Climbs}
 use Rattle.deciders.specs.Struck.{actions_of, steps_of}
-use Rattle.deciders.specs.Searches.{no_action, ByAction, ByStep, Starts, Lists, Finds}
+use Rattle.deciders.specs.Searches.{no_action, ByAction, ByStep, Starts, Lists}
 use Rattle.deciders.proofs.Chains.{entries_length, entries_at}
 use Rattle.deciders.proofs.Actions.{listing_same, action_held}
 

@@ -1,7 +1,7 @@
 -- A listing on a sheet: expanding one entry, and going through the entries.
 use Rattle.std.proofs.Common.{◌≡◌, ℕ, ◌+◌, ◌<◌, ◌≤◌, true, false, cond, List, [], ◌∷◌, ◌++◌, length, get_or, drop, set, Some, None, Ok, Err, Option, Result, sym, refl, ap, ◌∙◌, subst, inl, inr, add-one, arith, length-set}
 use Rattle.std.proofs.lemmas.Bool.{cases_eq, lt-ltb}
-use Rattle.std.proofs.lemmas.List.{get_or_append_left, length_push, get_or-set_same, get_or-set_other, at_drop_more, at_drop_all}
+use Rattle.std.proofs.lemmas.List.{get_or_append_left, length_push, get_or-set_same, get_or-set_other, at_drop_more}
 use Rattle.rules.specs.Listing.{Successor, listed, adding_made, expanded, listing}
 use Rattle.rules.proofs.Listing.{begins_expanded, listing_stays}
 use Rattle.deciders.specs.declared.row.Row.{Row}
@@ -81,9 +81,6 @@ module _ {f : Successor} {Wanted : ℕ → Type 0} {ws : List Action} {start s k
   -- what the steps of the actions vs leave of the list t
   abbrev after : List Action → List ℕ → List ℕ
   after vs t = expanded f (steps_of vs) s t
-
-  pub going_out : length ws ≤ j → Expands f Wanted ws start s l m sheet n (Ok None)
-  going_out h = (x.size, x.longer, sym (x.same ∙ at_drop_all (λ v. after v (entries sheet n)) ws j h), x.sound, x.away)
 
   module _ (h : j < length ws) where
     -- once the action j has made o, which leaves the list t
@@ -169,11 +166,6 @@ module _ (f : Successor) (ws : List Action) (start : ℕ) where
       ap (listing f (steps_of ws) start) (add-one k) ∙ ap (λ b. cond b (expanded f (steps_of ws) (get_or l k 0) l) l) (lt-ltb k (length l) h)
 
 module _ {f : Successor} {Wanted : ℕ → Type 0} {ws : List Action} {start m : ℕ} {sheet : List Row} {n k : ℕ} (x : Turn f Wanted ws start m sheet n k) where
-  pub turn_out : n ≤ k → Lists f Wanted ws start m sheet n (Ok None)
-  turn_out h =
-      let e : k ≡ n = omega (arith, x.low) in
-      (x.size, omega (arith, x.size, x.sound.fits), x.same ∙ ap (listing f (steps_of ws) start) e, x.away)
-
   module _ (h : k < n) (s : ℕ) (is : (row sheet k).set ≡ s) (sheet' : List Row) (n' : ℕ) where
     -- what expanding the row k makes of the rows
     abbrev next : List ℕ
@@ -199,17 +191,6 @@ module _ {f : Successor} {Wanted : ℕ → Type 0} {ws : List Action} {start m :
     from_start r g =
         let P : ℕ → ℕ → Type 0 = λ t u. Expands f Wanted ws t s (entries sheet n) u sheet' n' r in
         subst (P start) x.size (subst (λ t. P t (length sheet)) x.sound.first g)
-
-    pub turn_more : Said (Ok None) → Turn f Wanted ws start m sheet' n' (k + 1)
-    turn_more said =
-        let g = from_start (Ok None) said in
-        record {
-          size = g.0;
-          low = omega (arith, g.1, entries_length sheet n x.sound.fits);
-          same = g.2 ∙ next_is;
-          sound = g.3;
-          away = g.4;
-        }
 
     pub turn_goal : (i : ℕ) → Said (Ok (Some i)) → Lists f Wanted ws start m sheet' n' (Ok (Some i))
     turn_goal i said =
@@ -251,12 +232,3 @@ module _ (f : Successor) (Wanted : ℕ → Type 0) (ws : List Action) (start par
     sound_first,
     subst Wanted (sym row_first) w,
   )
-
-  pub start_turn : (Wanted start → ⊥) → Turn f Wanted ws start (length sheet) begun 1 0
-  start_turn w = record {
-    size = length-set sheet 0 first;
-    low = omega arith;
-    same = entries_more sheet 0 first some;
-    sound = sound_first;
-    away = λ i h y. (let e : i ≡ 0 = omega arith in w (subst Wanted (ap (λ (u : ℕ). (row begun u).set) e ∙ row_first) y));
-  }

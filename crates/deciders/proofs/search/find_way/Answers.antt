@@ -1,4 +1,4 @@
-use Rattle.std.proofs.Common.{◌<◌, ◌≤◌, length, take, arith, refl}
+use Rattle.std.proofs.Common.{◌<◌, length, take, arith, refl}
 use Rattle.std.proofs.lemmas.Result.{err_from_is_err_and}
 use Rattle.rules.specs.Planning.{task, strike}
 use Rattle.deciders.specs.Struck.{struck_out}

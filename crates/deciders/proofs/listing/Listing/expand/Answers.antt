@@ -1,25 +1,8 @@
-use Rattle.std.proofs.Common.{◌<◌, length, sym, refl, arith}
+use Rattle.std.proofs.Common.{sym, refl, arith}
 use Rattle.std.proofs.lemmas.Result.{err_from_is_err_and}
-use Rattle.deciders.proofs.Chains.{entries_length}
-use Rattle.deciders.proofs.Sheets.{going_none, going_seen, going_full, going_goal, going_more, going_out}
+use Rattle.deciders.proofs.Sheets.{going_none, going_seen, going_full, going_goal, going_more}
 use Rattle.deciders.proofs.listing.Listing.expand.Goals as goal
 use Rattle.deciders.proofs.listing.Listing.expand.Goals.{in-Some+then-not-has+in_ok-row+else-is_wanted, in-Some+else-not-has, in_default}
-
-pub loop-action-init : goal.loop-action-init
-loop-action-init g c =
-    let s = c.args.self.now in
-    record {
-      size = refl;
-      longer = omega (arith, entries_length s.rows.now s.count s.fits);
-      same = refl;
-      sound = c.requires.sound;
-      away = c.requires.away;
-      from = c.requires.here.0;
-      here = c.requires.here.1;
-    }
-
-pub returns : goal.returns
-returns g c = going_out c.loop-action.invariant (rw c.as_slice-action-items.ensures.value at c.loop-action-test.false)
 
 pub returns-in_err-row : goal.returns-in_err-row
 returns-in_err-row g c =
