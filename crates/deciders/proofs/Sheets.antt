@@ -192,6 +192,17 @@ module _ {f : Successor} {Wanted : ℕ → Type 0} {ws : List Action} {start m :
         let P : ℕ → ℕ → Type 0 = λ t u. Expands f Wanted ws t s (entries sheet n) u sheet' n' r in
         subst (P start) x.size (subst (λ t. P t (length sheet)) x.sound.first g)
 
+    pub turn_more : Said (Ok None) → Turn f Wanted ws start m sheet' n' (k + 1)
+    turn_more said =
+        let g = from_start (Ok None) said in
+        record {
+          size = g.0;
+          low = omega (arith, g.1, entries_length sheet n x.sound.fits);
+          same = g.2 ∙ next_is;
+          sound = g.3;
+          away = g.4;
+        }
+
     pub turn_goal : (i : ℕ) → Said (Ok (Some i)) → Lists f Wanted ws start m sheet' n' (Ok (Some i))
     turn_goal i said =
         let g = from_start (Ok (Some i)) said in

@@ -1,5 +1,5 @@
 use Rattle.std.proofs.lemmas.Result.{err_from_is_err_and}
-use Rattle.deciders.proofs.Sheets.{start_goal, turn_goal, turn_full}
+use Rattle.deciders.proofs.Sheets.{start_goal, turn_more, turn_goal, turn_full}
 use Rattle.deciders.proofs.listing.Listing.list.Goals as goal
 
 pub returns-then-is_wanted : goal.returns-then-is_wanted
@@ -21,3 +21,9 @@ returns-in-Some-2 g c =
     let t = c.expand.new.self in
     let e = c.in-Some.ensures.filled in
     turn_goal c.loop-at.invariant e.0 c.in-Some.entry e.1 t.rows.now t.count c.in-Some-2.row (rw c.in-Some-2.is at c.in_ok-row.ensures)
+
+pub loop-at-preserved : goal.loop-at-preserved
+loop-at-preserved g c =
+    let t = c.expand.new.self in
+    let e = c.in-Some.ensures.filled in
+    turn_more c.loop-at.invariant e.0 c.in-Some.entry e.1 t.rows.now t.count (rw c.in_default-2.is at c.in_ok-row.ensures)
