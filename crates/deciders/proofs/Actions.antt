@@ -1,5 +1,6 @@
 -- The steps that are left once facts are struck out: how their list is made, and that it lists what the places list.
 use Rattle.std.proofs.Common.{◌≡◌, ℕ, zero, suc, ◌+◌, ◌-◌, ◌<◌, ◌≤◌, cond, ltb, List, [], ◌∷◌, map, length, get_or, drop, Some, None, Option, refl, ap, ◌∙◌, arith}
+use Rattle.std.proofs.lemmas.Grind.{common_steps}
 use Rattle.rules.specs.declared.step.Step.{Step}
 use Rattle.rules.specs.Planning.{place_without}
 use Rattle.rules.specs.Listing.{Successor, adding_made, expanded, listing}
@@ -35,22 +36,12 @@ record Placed (i : ℕ) (ts : List (Option Step)) (w : Action) : Type 0 where
   from : i ≤ w.place
   holds : get_or ts (w.place - i) None ≡ Some w.step
 
-placed_on : (i : ℕ) (o : Option Step) (ts : List (Option Step)) (w : Action) → Placed (i + 1) ts w → Placed i (o ∷ ts) w
-placed_on i o ts w x =
-    let e : w.place - i ≡ suc (w.place - (i + 1)) = omega (arith, x.from) in
-    record { from = omega (arith, x.from); holds = ap (λ (n : ℕ). get_or (o ∷ ts) n None) e ∙ x.holds }
-
 placed : (i : ℕ) (ts : List (Option Step)) (j : ℕ) → j < length (actions_of i ts) → Placed i ts (get_or (actions_of i ts) j no_action)
 placed i [] j h = absurd (omega arith)
-placed i (None ∷ ts) j h = placed_on i None ts (get_or (actions_of (i + 1) ts) j no_action) (placed (i + 1) ts j h)
-placed i (Some t ∷ ts) zero h =
-    let e : i - i ≡ 0 = omega arith in
-    record { from = omega arith; holds = ap (λ (n : ℕ). get_or (Some t ∷ ts) n None) e }
-placed i (Some t ∷ ts) (suc j) h = placed_on i (Some t) ts (get_or (actions_of (i + 1) ts) j no_action) (placed (i + 1) ts j (omega arith))
+placed i (None ∷ ts) j h = let x = placed (i + 1) ts j h in grind (arith, common_steps)
+placed i (Some t ∷ ts) zero h = grind (arith, common_steps)
+placed i (Some t ∷ ts) (suc j) h = let x = placed (i + 1) ts j (omega arith) in grind (arith, common_steps)
 
 pub action_held : (ts : List (Option Step)) (j : ℕ) → j < length (actions_of 0 ts)
     → get_or ts (get_or (actions_of 0 ts) j no_action).place None ≡ Some (get_or (actions_of 0 ts) j no_action).step
-action_held ts j h =
-    let w : Action = get_or (actions_of 0 ts) j no_action in
-    let e : w.place ≡ w.place - 0 = omega arith in
-    ap (λ (n : ℕ). get_or ts n None) e ∙ (placed 0 ts j h).holds
+action_held ts j h = let x = placed 0 ts j h in grind (arith, common_steps)

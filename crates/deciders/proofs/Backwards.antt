@@ -22,9 +22,9 @@ backward→ : (t : Step) (w r : ℕ) → backward t w ≡ Some r → (Meets t.ta
 backward→ t w r = go (shares t.gives w) (shares t.takes w) refl
   where
     go : (a b : Bool) → shares t.takes w ≡ b → cond a (cond b None (Some (before t w))) None ≡ Some r → (Meets t.takes w → ⊥) × (before t w ≡ r)
-    go true true e q = absurd (let z : ◌≡◌ {A = ℕ} 0 1 = cc in omega arith)
+    go true true e q = cc
     go true false e q = (λ m. subst T e (test_share t.takes w m), cc)
-    go false b e q = absurd (let z : ◌≡◌ {A = ℕ} 0 1 = cc in omega arith)
+    go false b e q = cc
 
 →backward : (t : Step) (w : ℕ) → Meets t.gives w → (Meets t.takes w → ⊥) → backward t w ≡ Some (before t w)
 →backward t w m n = ap (λ b. cond b (cond (shares t.takes w) None (Some (before t w))) None) (T→true (shares t.gives w) (test_share t.gives w m)) ∙ go (shares t.takes w) refl
