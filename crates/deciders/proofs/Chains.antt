@@ -1,12 +1,11 @@
 -- The index: an empty one, one more entry, and following a chain.
-use Rattle.std.proofs.Common.{◌≡◌, ℕ, zero, suc, ◌+◌, ◌<◌, ◌≤◌, T, true, false, eqb, List, [], ◌∷◌, ◌++◌, map, length, get_or, take, set, replicate, Some, None, Option, sym, refl, ap, ◌∙◌, subst, inl, inr, arith}
-use Rattle.std.proofs.lemmas.Bool.{false_from_ne_true, cases_eq, cases_lt, eq-eqb, ne_eqb, or_left, or_right, or_from}
+use Rattle.std.proofs.Common.{◌≡◌, ℕ, ◌+◌, ◌<◌, ◌≤◌, T, true, false, List, [], ◌∷◌, ◌++◌, length, get_or, set, replicate, Some, None, Option, sym, ap, ◌∙◌, subst, arith}
+use Rattle.std.proofs.lemmas.Bool.{false_from_ne_true}
 use Rattle.std.proofs.lemmas.Grind.{common_steps}
-use Rattle.std.proofs.lemmas.List.{get_or_append_left, get_or_push, length_push, get_or-set_same, get_or-set_other, take_more_set, map_push, get_or-map, get_or-take, length-map, length-take-le, get_or-replicate, get_or_past, length-replicate}
 use Rattle.rules.specs.Listing.{listed}
 use Rattle.rules.proofs.Listing.{T→true, listed→, →listed}
 use Rattle.deciders.specs.declared.row.Row.{Row}
-use Rattle.deciders.specs.Rows.{no_row, row, entries}
+use Rattle.deciders.specs.Rows.{row, entries}
 use Rattle.deciders.specs.Chains.{hash_of, Indexed}
 
 -- ---- the sets of the first rows

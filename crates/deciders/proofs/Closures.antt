@@ -1,13 +1,11 @@
 -- Closures: one round, the closure as the last of many rounds, and what is outside it.
-use Rattle.std.proofs.Common.{◌≡◌, ℕ, zero, suc, ◌+◌, ◌<◌, ◌≤◌, ◌⊎◌, List, [], ◌∷◌, length, get_or, Some, None, Option, sym, refl, ap, ◌∙◌, subst, inl, inr, arith}
-use native.Mathlib.Decide.{dec_lt}
+use Rattle.std.proofs.Common.{◌≡◌, ℕ, zero, suc, ◌+◌, ◌<◌, ◌≤◌, ◌⊎◌, List, [], ◌∷◌, length, get_or, Some, None, Option, refl, ap, subst, inl, inr, arith}
 use Rattle.std.proofs.lemmas.Bool.{cases_eq}
 use Rattle.std.proofs.lemmas.Grind.{common_steps}
 use Rattle.rules.specs.declared.step.Step.{Step}
 use Rattle.rules.specs.Sets.{bit, ◌⊆◌, ◌∪◌}
 use Rattle.rules.specs.Planning.{Task, done, Leads}
 use Rattle.rules.proofs.Sets.{bits, sub_le, same_facts, inside_dec}
-use Rattle.rules.proofs.Tables.{past_places}
 use Rattle.deciders.specs.Closures.{Under, Closed, Closure, Round}
 use Rattle.deciders.specs.Struck.{actions_of, steps_of}
 use Rattle.deciders.specs.Theorems.{ClosureExists, ClosureUnique, ScreenedBlocked}

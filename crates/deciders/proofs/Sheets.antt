@@ -1,14 +1,14 @@
 -- A listing on a sheet: expanding one entry, and going through the entries.
-use Rattle.std.proofs.Common.{◌≡◌, ℕ, ◌+◌, ◌<◌, ◌≤◌, true, false, cond, List, [], ◌∷◌, ◌++◌, length, get_or, drop, set, Some, None, Ok, Err, Option, Result, sym, refl, ap, ◌∙◌, subst, inl, inr, add-one, arith, length-set}
-use Rattle.std.proofs.lemmas.Bool.{cases_eq, lt-ltb}
+use Rattle.std.proofs.Common.{◌≡◌, ℕ, ◌+◌, ◌<◌, ◌≤◌, true, false, cond, List, [], ◌∷◌, ◌++◌, length, get_or, drop, set, Some, None, Ok, Err, Option, Result, sym, ap, ◌∙◌, add-one, arith}
+use Rattle.std.proofs.lemmas.Bool.{lt-ltb}
 use Rattle.std.proofs.lemmas.Grind.{common_steps}
-use Rattle.std.proofs.lemmas.List.{get_or_append_left, length_push, get_or-set_same, get_or-set_other, at_drop_more}
+use Rattle.std.proofs.lemmas.List.{at_drop_more}
 use Rattle.rules.specs.Listing.{Successor, listed, adding_made, expanded, listing}
 use Rattle.rules.proofs.Listing.{begins_expanded, listing_stays}
 use Rattle.deciders.specs.declared.row.Row.{Row}
 use Rattle.deciders.specs.declared.struck.Action.{Action}
 use Rattle.deciders.specs.declared.listing.Unsettled.{Unsettled}
-use Rattle.deciders.specs.Rows.{no_row, row, entries, Sound}
+use Rattle.deciders.specs.Rows.{row, entries, Sound}
 use Rattle.deciders.specs.Struck.{steps_of}
 use Rattle.deciders.specs.Searches.{no_action, ByAction, Starts, Away, Expands, Lists}
 use Rattle.deciders.proofs.Chains.{entries_length, entries_at, entries_more}

@@ -14,6 +14,7 @@ pub struct Action {
     pub place: u8,
 }
 
+// Kept: a derive needs a default of `Step`, which has none
 impl Default for Action {
     fn default() -> Action {
         Action {
