@@ -1,5 +1,5 @@
 -- What a backward search says of plans.
-use Rattle.std.proofs.Common.{◌≡◌, ℕ, ◌+◌, Bool, true, false, cond, T, List, [], ◌∷◌, ◌++◌, reverse, get_or, Some, None, sym, refl, ap, ◌∙◌, subst, inl, inr, arith}
+use Rattle.std.proofs.Common.{◌≡◌, ℕ, Bool, true, false, cond, T, List, [], ◌∷◌, ◌++◌, reverse, get_or, Some, None, sym, refl, ap, ◌∙◌, subst, inl, inr, arith}
 use mathlib.Core.List.{reverse-append, reverse-reverse}
 use Rattle.rules.specs.declared.step.Step.{Step}
 use Rattle.rules.specs.Sets.{bit, ◌⊆◌, ◌∪◌, ◌∖◌, Meets}
@@ -9,14 +9,8 @@ use Rattle.rules.proofs.Sets.{bits, meets_or_apart, apart→, share_test, test_s
 use Rattle.rules.proofs.Plans.{held_struck, some_without, leads→, →leads}
 use Rattle.rules.proofs.Listing.{T→true, path_push, listed_reached, reached_listed}
 use Rattle.rules.proofs.Forwards.{forward_walks, →forward}
-use Rattle.deciders.specs.declared.row.Row.{Row}
-use Rattle.deciders.specs.declared.search.Progress.{Progress}
-use Rattle.deciders.specs.declared.search.Progress.TheVariants.{Rows, Goal}
-use Rattle.deciders.specs.Rows.{row, Climbs}
-use Rattle.deciders.specs.Searches.{Finds}
 use Rattle.deciders.specs.Reaches.{shares, backward}
 use Rattle.deciders.specs.Theorems.{wanted, WantedLeads, LeadsWanted, WantedBlocked, BackwardExample}
-use Rattle.deciders.proofs.Settled.{climbed_path}
 
 -- ---- a step leads backward exactly where it gives a fact that is wanted and takes none
 
@@ -28,9 +22,9 @@ backward→ : (t : Step) (w r : ℕ) → backward t w ≡ Some r → (Meets t.ta
 backward→ t w r = go (shares t.gives w) (shares t.takes w) refl
   where
     go : (a b : Bool) → shares t.takes w ≡ b → cond a (cond b None (Some (before t w))) None ≡ Some r → (Meets t.takes w → ⊥) × (before t w ≡ r)
-    go true true e q = absurd (let z : ◌≡◌ {A = ℕ} 0 1 = cc in omega arith)
+    go true true e q = cc
     go true false e q = (λ m. subst T e (test_share t.takes w m), cc)
-    go false b e q = absurd (let z : ◌≡◌ {A = ℕ} 0 1 = cc in omega arith)
+    go false b e q = cc
 
 →backward : (t : Step) (w : ℕ) → Meets t.gives w → (Meets t.takes w → ⊥) → backward t w ≡ Some (before t w)
 →backward t w m n = ap (λ b. cond b (cond (shares t.takes w) None (Some (before t w))) None) (T→true (shares t.gives w) (test_share t.gives w m)) ∙ go (shares t.takes w) refl
@@ -103,20 +97,10 @@ struck_consistent p x sane i t e (f, y, z) =
       omega (arith, bits, z, ap (λ (v : Step). bit v.takes f) q),
     )
 
--- ---- what the sheet says
-
-module _ (p : Task) (sheet : List Row) where
-  abbrev Said : Progress → Type 0
-  Said r = Finds backward (λ w. w ⊆ p.standing) p.steps p.order sheet r
-
-  pub backward_blocked : Consistent p → (n : ℕ) → Said (Rows n) → (l : List ℕ) → Plan p l → ⊥
-  backward_blocked sane n h = wanted_blocked p n sane h.1 h.2
-
-  pub backward_plan : (i : ℕ) → Said (Goal i) → (l : List ℕ) → Climbs sheet i l 0 → Plan p l
-  backward_plan i h l up =
-      let path = climbed_path backward p.steps p.order sheet (i + 1) h.2 l i (omega arith) up in
-      let (e, walk, o) = back_walk p (reverse l) p.order (row sheet i).set p.standing path h.3 in
-      →leads p p.standing l e (subst (λ k. Walk p.steps p.standing k e) (reverse-reverse l) walk) o
+pub backward_plan : (p : Task) (l : List ℕ) (w : ℕ) → Path backward p.steps p.order (reverse l) w → w ⊆ p.standing → Plan p l
+backward_plan p l w path sub =
+    let (e, walk, o) = back_walk p (reverse l) p.order w p.standing path sub in
+    →leads p p.standing l e (subst (λ k. Walk p.steps p.standing k e) (reverse-reverse l) walk) o
 
 -- ---- the worked example
 

@@ -1,55 +1,38 @@
 -- Closures: one round, the closure as the last of many rounds, and what is outside it.
-use Rattle.std.proofs.Common.{◌≡◌, ℕ, zero, suc, ◌+◌, ◌<◌, ◌≤◌, ◌⊎◌, List, [], ◌∷◌, map, length, get_or, Some, None, Option, sym, refl, ap, ◌∙◌, subst, inl, inr, arith}
-use native.Mathlib.Decide.{dec_lt}
+use Rattle.std.proofs.Common.{◌≡◌, ℕ, zero, suc, ◌+◌, ◌<◌, ◌≤◌, ◌⊎◌, List, [], ◌∷◌, length, get_or, Some, None, Option, refl, ap, subst, inl, inr, arith}
 use Rattle.std.proofs.lemmas.Bool.{cases_eq}
+use Rattle.std.proofs.lemmas.Grind.{common_steps}
 use Rattle.rules.specs.declared.step.Step.{Step}
 use Rattle.rules.specs.Sets.{bit, ◌⊆◌, ◌∪◌}
-use Rattle.rules.specs.Planning.{Task, done, Leads, place_without}
+use Rattle.rules.specs.Planning.{Task, done, Leads}
 use Rattle.rules.proofs.Sets.{bits, sub_le, same_facts, inside_dec}
-use Rattle.rules.proofs.Tables.{past_places}
 use Rattle.deciders.specs.Closures.{Under, Closed, Closure, Round}
-use Rattle.deciders.specs.Searches.{actions_of, steps_of}
+use Rattle.deciders.specs.Struck.{actions_of, steps_of}
 use Rattle.deciders.specs.Theorems.{ClosureExists, ClosureUnique, ScreenedBlocked}
-
-never : (t : Step) → None ≡ Some t → ⊥
-never t e = let z : ◌≡◌ {A = ℕ} 0 1 = cc in omega arith
 
 module _ (ts : List (Option Step)) where
   -- ---- one round, step by step
 
   pub round_start : (c : ℕ) → Round ts 0 c c
-  round_start c = record { grows = λ f. omega arith; least = λ d u sub. sub; all = λ i t h. absurd (omega arith) }
+  round_start c = grind (arith, common_steps)
 
   module _ (n c r : ℕ) (x : Round ts n c r) where
-    -- what is said of the first n steps, and of the step at n
-    all_more : (r' : ℕ) → r ⊆ r' → ((t : Step) → get_or ts n None ≡ Some t → t.needs ⊆ c → t.gives ⊆ r')
-        → (i : ℕ) (t : Step) → i < n + 1 → get_or ts i None ≡ Some t → t.needs ⊆ c → t.gives ⊆ r'
-    all_more r' sub last i t h is can = elim (cases_eq i n) [
-      | inl e ↦ last t (ap (λ (j : ℕ). get_or ts j None) (sym e) ∙ is) can
-      | inr e ↦ (let y = x.all i t (omega arith) is can in λ f. omega (arith, y f, sub f))
-    ]
-
     pub round_none : get_or ts n None ≡ None → Round ts (n + 1) c r
-    round_none e = record { grows = x.grows; least = x.least; all = all_more r (λ f. omega arith) (λ t is. absurd (never t (sym e ∙ is))) }
+    round_none e = grind (arith, common_steps)
 
     module _ (t : Step) (is : get_or ts n None ≡ Some t) where
       pub round_not : (t.needs ⊆ r → ⊥) → Round ts (n + 1) c r
       round_not cannot = record {
         grows = x.grows;
         least = x.least;
-        all = all_more r (λ f. omega arith) (λ u e can. absurd (cannot (λ f.
-            let q : u ≡ t = cc in omega (arith, can f, x.grows f, ap (λ (v : Step). bit v.needs f) q))));
+        all = λ i u h e can. elim (cases_eq i n) [
+          | inl q ↦ absurd (cannot (λ f. grind (arith, can f, x.grows f)))
+          | inr q ↦ x.all i u (omega arith) e can
+        ];
       }
 
       pub round_add : t.needs ⊆ r → Round ts (n + 1) c (r ∪ t.gives)
-      round_add can = record {
-        grows = λ f. omega (arith, bits, x.grows f);
-        least = λ d u sub. (let low = x.least d u sub in
-            let gives = u n t is (λ f. omega (arith, can f, low f)) in
-            λ f. omega (arith, bits, low f, gives f));
-        all = all_more (r ∪ t.gives) (λ f. omega (arith, bits)) (λ u e _ f.
-            let q : u ≡ t = cc in omega (arith, bits, ap (λ (v : Step). bit v.gives f) q));
-      }
+      round_add can = grind (arith, common_steps, bits)
 
   round_exists : (n c : ℕ) → (r : ℕ) × Round ts n c r
   round_exists zero c = (c, round_start c)
@@ -70,28 +53,16 @@ module _ (ts : List (Option Step)) where
     pub least : (d : ℕ) → Closed ts s d → c ⊆ d
 
   pub closing_start : (s : ℕ) → Closing s s
-  closing_start s = record { holds = λ f. omega arith; least = λ d h. h.0 }
+  closing_start s = grind arith
 
   pub closing_more : (s n c r : ℕ) → Closing s c → Round ts n c r → Closing s r
-  closing_more s n c r x y = record {
-    holds = λ f. omega (arith, x.holds f, y.grows f);
-    least = λ d h. y.least d h.1 (x.least d h);
-  }
+  closing_more s n c r x y = grind arith
 
   pub closing_rises : (n c r : ℕ) → Round ts n c r → (r ≡ c → ⊥) → c < r
   closing_rises n c r y new = omega (arith, sub_le r c y.grows, new)
 
   pub closing_out : (s n c r : ℕ) → length ts ≤ n → Closing s c → Round ts n c r → r ≡ c → Closure ts s c
-  closing_out s n c r long x y e = (
-    (
-      x.holds,
-      λ i t is can. elim (dec_lt i (length ts)) [
-        | yes lt ↦ (let g = y.all i t (omega arith) is can in λ f. omega (arith, g f, ap (λ (n : ℕ). bit n f) e))
-        | no ge ↦ absurd (never t (sym (past_places ts i (omega arith)) ∙ is))
-      ],
-    ),
-    x.least,
-  )
+  closing_out s n c r long x y e = grind (arith, common_steps)
 
   -- ---- there is a closure
 
@@ -116,9 +87,9 @@ module _ (ts : List (Option Step)) where
   ]
 
 all_gives : (ts : List (Option Step)) → (g : ℕ) × ((i : ℕ) (t : Step) → get_or ts i None ≡ Some t → t.gives ⊆ g)
-all_gives [] = (0, λ i t e. absurd (never t e))
+all_gives [] = (0, λ i t e. cc)
 all_gives (None ∷ ts) = let (g, h) = all_gives ts in
-    (g, λ i. elim i as (λ i. (t : Step) → get_or (None ∷ ts) i None ≡ Some t → t.gives ⊆ g) [ zero ↦ (λ t e. absurd (never t e)) | suc j ↦ h j ])
+    (g, λ i. elim i as (λ i. (t : Step) → get_or (None ∷ ts) i None ≡ Some t → t.gives ⊆ g) [ zero ↦ (λ t e. cc) | suc j ↦ h j ])
 all_gives (Some u ∷ ts) = let (g, h) = all_gives ts in (
   u.gives ∪ g,
   λ i. elim i as (λ i. (t : Step) → get_or (Some u ∷ ts) i None ≡ Some t → t.gives ⊆ u.gives ∪ g) [
@@ -148,25 +119,25 @@ screened_blocked p (c, x, out) l plan = out (stays_inside p c x.0.1 p.standing l
 
 -- ---- the actions have the closures that the places have
 
-to_place : (g i : ℕ) (ts : List (Option Step)) (j : ℕ) (t : Step) → get_or (steps_of (actions_of g i ts)) j None ≡ Some t
-    → (k : ℕ) × (get_or (map (place_without g) ts) k None ≡ Some t)
-to_place g i [] j t e = absurd (never t e)
-to_place g i (None ∷ ts) j t e = let (k, q) = to_place g (i + 1) ts j t e in (suc k, q)
-to_place g i (Some u ∷ ts) zero t e = (zero, e)
-to_place g i (Some u ∷ ts) (suc j) t e = let (k, q) = to_place g (i + 1) ts j t e in (suc k, q)
+to_place : (i : ℕ) (ts : List (Option Step)) (j : ℕ) (t : Step) → get_or (steps_of (actions_of i ts)) j None ≡ Some t
+    → (k : ℕ) × (get_or ts k None ≡ Some t)
+to_place i [] j t e = cc
+to_place i (None ∷ ts) j t e = let (k, q) = to_place (i + 1) ts j t e in (suc k, q)
+to_place i (Some u ∷ ts) zero t e = (zero, e)
+to_place i (Some u ∷ ts) (suc j) t e = let (k, q) = to_place (i + 1) ts j t e in (suc k, q)
 
-to_action : (g i : ℕ) (ts : List (Option Step)) (k : ℕ) (t : Step) → get_or (map (place_without g) ts) k None ≡ Some t
-    → (j : ℕ) × (get_or (steps_of (actions_of g i ts)) j None ≡ Some t)
-to_action g i [] k t e = absurd (never t e)
-to_action g i (None ∷ ts) zero t e = absurd (never t e)
-to_action g i (None ∷ ts) (suc k) t e = to_action g (i + 1) ts k t e
-to_action g i (Some u ∷ ts) zero t e = (zero, e)
-to_action g i (Some u ∷ ts) (suc k) t e = let (j, q) = to_action g (i + 1) ts k t e in (suc j, q)
+to_action : (i : ℕ) (ts : List (Option Step)) (k : ℕ) (t : Step) → get_or ts k None ≡ Some t
+    → (j : ℕ) × (get_or (steps_of (actions_of i ts)) j None ≡ Some t)
+to_action i [] k t e = cc
+to_action i (None ∷ ts) zero t e = cc
+to_action i (None ∷ ts) (suc k) t e = to_action (i + 1) ts k t e
+to_action i (Some u ∷ ts) zero t e = (zero, e)
+to_action i (Some u ∷ ts) (suc k) t e = let (j, q) = to_action (i + 1) ts k t e in (suc j, q)
 
-pub closure_places : (g : ℕ) (ts : List (Option Step)) (s c : ℕ) → Closure (steps_of (actions_of g 0 ts)) s c → Closure (map (place_without g) ts) s c
-closure_places g ts s c x =
-    let there : (d : ℕ) → Under (steps_of (actions_of g 0 ts)) d → Under (map (place_without g) ts) d =
-    λ d u k t e. (let (j, q) = to_action g 0 ts k t e in u j t q) in
-    let back : (d : ℕ) → Under (map (place_without g) ts) d → Under (steps_of (actions_of g 0 ts)) d =
-    λ d u j t e. (let (k, q) = to_place g 0 ts j t e in u k t q) in
+pub closure_places : (ts : List (Option Step)) (s c : ℕ) → Closure (steps_of (actions_of 0 ts)) s c → Closure ts s c
+closure_places ts s c x =
+    let there : (d : ℕ) → Under (steps_of (actions_of 0 ts)) d → Under ts d =
+    λ d u k t e. (let (j, q) = to_action 0 ts k t e in u j t q) in
+    let back : (d : ℕ) → Under ts d → Under (steps_of (actions_of 0 ts)) d =
+    λ d u j t e. (let (k, q) = to_place 0 ts j t e in u k t q) in
     ((x.0.0, there c x.0.1), λ d h. x.1 d (h.0, back d h.1))

@@ -1,10 +1,10 @@
 -- Lemmas of the deciders.
 pub mod Chains
-pub mod Sheets
 pub mod Actions
-pub mod Settled
 pub mod Climbs
+pub mod Sheets
+pub mod Settled
+pub mod Closures
 pub mod Forwards
 pub mod Backwards
-pub mod Closures
 pub mod Screens

@@ -1,6 +1,5 @@
 -- What a screen answers, and what its reach is made of.
-use Rattle.std.proofs.Common.{◌≡◌, ℕ, List, Ok, Err, Option, Result, subst, inl, inr}
-use Rattle.rules.specs.declared.step.Step.{Step}
+use Rattle.std.proofs.Common.{◌≡◌, ℕ, List, Ok, Err, Result, subst, inl, inr}
 use Rattle.rules.specs.Sets.{◌⊆◌}
 use Rattle.rules.specs.Planning.{Task, strike}
 use Rattle.deciders.specs.declared.answer.Verdict.{Verdict}
@@ -18,27 +17,14 @@ answers_by R S mark p x m book book' (Ok (verdict.Solvable k)) to from h = (to h
 answers_by R S mark p x m book book' (Ok verdict.Blocked) to from h = (to h.0, h.1, h.2)
 answers_by R S mark p x m book book' (Err e) to from h = ((λ s. h.0 (from s)), h.1, h.2)
 
--- the closure that the code finds, at values that are known by equations
-pub closure_at : (ts ts' : List (Option Step)) (s s' c : ℕ) → ts ≡ ts' → s ≡ s' → Closure ts s c → Closure ts' s' c
-closure_at ts ts' s s' c e d h =
-    let E : List (Option Step) → Type 0 = λ v. Closure v s c in
-    let D : ℕ → Type 0 = λ v. Closure ts' v c in
-    subst D d (subst E e h)
-
 module _ (R : Task → ℕ → ℕ → ℕ → Type 0) (p : Task) (x m b : ℕ) where
   -- where the order is inside the closure, a screen reaches what is reached below it
-  pub passed : (c o : ℕ) → o ≡ (strike p x).order → Closure (strike p x).steps (strike p x).standing c → o ⊆ c → ScreenReach R p x m b → R p x m b
-  passed c o e closure sub (sized, inl r) = r
-  passed c o e closure sub (sized, inr (d, other, out)) =
+  pub passed : (c : ℕ) → Closure (strike p x).steps (strike p x).standing c → (strike p x).order ⊆ c → ScreenReach R p x m b → R p x m b
+  passed c closure sub (sized, inl r) = r
+  passed c closure sub (sized, inr (d, other, out)) =
       let q : c ≡ d = closure_unique (strike p x).steps (strike p x).standing c d closure other in
-      let P : ℕ → ℕ → Type 0 = λ u v. u ⊆ v in
-      absurd (out (subst (P (strike p x).order) q (subst (λ u. P u c) e sub)))
+      absurd (out (subst (λ u. (strike p x).order ⊆ u) q sub))
 
   -- outside the size limits it reaches nothing
   pub oversized : (Sized m b → ⊥) → ScreenReach R p x m b → R p x m b
   oversized large h = absurd (large h.0)
-
-  -- two screens have one reach where what is below them has
-  pub screens_by : (S : Task → ℕ → ℕ → ℕ → Type 0) → (R p x m b → S p x m b) → ScreenReach R p x m b → ScreenReach S p x m b
-  screens_by S to (sized, inl r) = (sized, inl (to r))
-  screens_by S to (sized, inr out) = (sized, inr out)

@@ -1,14 +1,17 @@
 -- An index over the entries of a listing: for each hash a chain of the entries that have it.
-use Rattle.std.specs.Prelude.{◌≡◌, ℕ, ◌+◌, ◌*◌, ◌/◌, ◌%◌, ◌^◌, ◌<◌, ◌≤◌, List, length, slice_index}
+use Rattle.std.specs.Prelude.{◌≡◌, ℕ, zero, suc, ◌+◌, ◌*◌, ◌/◌, ◌%◌, ◌^◌, ◌<◌, ◌≤◌, List, length, slice_index, Some, None, Option}
 
 -- the hash of a set, below 4,096
 unfoldable pub hash_of : ℕ → ℕ
 hash_of s = s * 2654435769 % 2 ^ 32 / 2 ^ 20
 
--- A link is 0, or one more than the number of an entry. The chain of a hash goes from its head down through all the entries that have it.
+-- the entry that a link leads to: none for 0, or that with the number below it
+abbrev pub linked : ℕ → Option ℕ
+linked zero = None
+linked (suc i) = Some i
+
+-- The chain of a hash goes from its head down through all the entries that have it.
 pub record Indexed (heads links l : List ℕ) : Type 0 where
-  pub head_count : length heads ≡ 4096
-  pub link_count : length links ≡ 4096
   pub low : (h : ℕ) → slice_index heads h ≤ length l
   pub all : (i : ℕ) → i < length l → i < slice_index heads (hash_of (slice_index l i))
   pub alike : (h i : ℕ) → slice_index heads h ≡ i + 1 → hash_of (slice_index l i) ≡ h

@@ -5,4 +5,5 @@ pub mod Reaches
 pub mod Theorems
 pub mod Rows
 pub mod Chains
+pub mod Struck
 pub mod Searches

@@ -1,28 +1,17 @@
--- How a search lists entries on a sheet of rows, and what the sheet holds when it stops.
-use Rattle.std.specs.Prelude.{◌≡◌, ℕ, ◌+◌, ◌<◌, ◌≤◌, List, [], ◌∷◌, map, length, get_or, Some, None, Option, slice_index, slice_index_or}
+-- How a search lists entries on a sheet of rows, and what it answers.
+use Rattle.std.specs.Prelude.{◌≡◌, ℕ, ◌+◌, ◌<◌, ◌≤◌, List, reverse, length, take, drop, get_or, Some, None, Ok, Err, Option, Result, slice_index, slice_index_or}
 use Rattle.rules.specs.declared.step.Step.{Step}
-use Rattle.rules.specs.Planning.{step_without}
-use Rattle.rules.specs.Listing.{Successor, expanded, listing, Whole, Settles}
+use Rattle.rules.specs.Listing.{Successor, expanded, listing, Whole, Settles, Path}
 use Rattle.deciders.specs.declared.row.Row.{Row}
-use Rattle.deciders.specs.declared.action.Action.{Action}
-use Rattle.deciders.specs.declared.search.Progress.{Progress}
-use Rattle.deciders.specs.declared.search.Progress.TheVariants.{Rows, Goal, Full}
+use Rattle.deciders.specs.declared.struck.Action.{Action}
+use Rattle.deciders.specs.declared.listing.Unsettled.{Unsettled}
+use Rattle.deciders.specs.Answers.{Sized}
 use Rattle.deciders.specs.Rows.{row, entries, Sound}
-use Rattle.deciders.specs.Chains.{Indexed}
+use Rattle.deciders.specs.Struck.{steps_of}
 
 -- what stands past the last action
 abbrev pub no_action : Action
 no_action = record { step = record { needs = 0; gives = 0; takes = 0 }; place = 0 }
-
--- the steps at the places i, i + 1 and so on that are not empty, without the facts of g, each with its place
-abbrev pub actions_of : ℕ → ℕ → List (Option Step) → List Action
-actions_of g i [] = []
-actions_of g i (None ∷ ts) = actions_of g (i + 1) ts
-actions_of g i (Some t ∷ ts) = record { step = step_without g t; place = i } ∷ actions_of g (i + 1) ts
-
--- the steps of the actions
-abbrev pub steps_of : List Action → List (Option Step)
-steps_of ws = map (λ (w : Action). Some w.step) ws
 
 -- one of the actions makes the row r of the row q
 pub record ByAction (f : Successor) (ws : List Action) (r q : Row) : Type 0 where
@@ -43,29 +32,34 @@ Starts l l' = (length l ≤ length l') × ((i : ℕ) → i < length l → slice_
 abbrev pub Away : (ℕ → Type 0) → List Row → ℕ → Type 0
 Away Wanted sheet n = (i : ℕ) → i < n → Wanted (row sheet i).set → ⊥
 
--- What expanding the entry s of the list l leaves: the list that the rules say, a row that is wanted, or a sheet without a free row.
-abbrev pub Expands : Successor → (ℕ → Type 0) → List Action → ℕ → ℕ → List ℕ → List Row → List ℕ → List ℕ → Progress → Type 0
-Expands f Wanted ws start s l sheet heads links (Rows n) =
-    (length l ≤ n) × (entries sheet n ≡ expanded f (steps_of ws) s l) × Sound (ByAction f ws) start sheet n × Away Wanted sheet n × Indexed heads links (entries sheet n)
-Expands f Wanted ws start s l sheet heads links (Goal i) =
-    (i < length sheet) × Starts (entries sheet (i + 1)) (expanded f (steps_of ws) s l) × Sound (ByAction f ws) start sheet (i + 1) × Wanted (row sheet i).set
-Expands f Wanted ws start s l sheet heads links Full =
-    Away Wanted sheet (length sheet) × Starts (entries sheet (length sheet)) (expanded f (steps_of ws) s l) × (length sheet < length (expanded f (steps_of ws) s l))
+-- What expanding the entry s of the list l leaves on the first n of m rows: the list that the rules say, a last row that is wanted, or no free row.
+abbrev pub Expands : Successor → (ℕ → Type 0) → List Action → ℕ → ℕ → List ℕ → ℕ → List Row → ℕ → Result (Option ℕ) Unsettled → Type 0
+Expands f Wanted ws start s l m sheet n (Ok None) =
+    (length sheet ≡ m) × (length l ≤ n) × (entries sheet n ≡ expanded f (steps_of ws) s l) × Sound (ByAction f ws) start sheet n × Away Wanted sheet n
+Expands f Wanted ws start s l m sheet n (Ok (Some i)) =
+    (length sheet ≡ m) × (n ≡ i + 1) × Starts (entries sheet n) (expanded f (steps_of ws) s l) × Sound (ByAction f ws) start sheet n × Wanted (row sheet i).set
+Expands f Wanted ws start s l m sheet n (Err e) =
+    (length sheet ≡ m) × (n ≡ m) × Away Wanted sheet m × Starts (entries sheet m) (expanded f (steps_of ws) s l) × (m < length (expanded f (steps_of ws) s l))
 
--- What a listing by the actions leaves when it stops: it is whole and nothing wanted is in it, a row is wanted, or no row is free.
-abbrev pub Lists : Successor → (ℕ → Type 0) → List Action → ℕ → List Row → Progress → Type 0
-Lists f Wanted ws start sheet (Rows n) = (n ≤ length sheet) × (entries sheet n ≡ listing f (steps_of ws) start n) × Away Wanted sheet n
-Lists f Wanted ws start sheet (Goal i) =
-    (i < length sheet) × Starts (entries sheet (i + 1)) (listing f (steps_of ws) start (length sheet)) × Sound (ByAction f ws) start sheet (i + 1) × Wanted (row sheet i).set
-Lists f Wanted ws start sheet Full =
-    Away Wanted sheet (length sheet) × Starts (entries sheet (length sheet)) (listing f (steps_of ws) start (length sheet))
-    × (length sheet < length (listing f (steps_of ws) start (length sheet)))
+-- What a listing by the actions leaves when it stops: it is whole and nothing wanted is in it, its last row is wanted, or no row is free.
+abbrev pub Lists : Successor → (ℕ → Type 0) → List Action → ℕ → ℕ → List Row → ℕ → Result (Option ℕ) Unsettled → Type 0
+Lists f Wanted ws start m sheet n (Ok None) = (length sheet ≡ m) × (n ≤ m) × (entries sheet n ≡ listing f (steps_of ws) start n) × Away Wanted sheet n
+Lists f Wanted ws start m sheet n (Ok (Some i)) =
+    (length sheet ≡ m) × (n ≡ i + 1) × Starts (entries sheet n) (listing f (steps_of ws) start m) × Sound (ByAction f ws) start sheet n × Wanted (row sheet i).set
+Lists f Wanted ws start m sheet n (Err e) =
+    (length sheet ≡ m) × (n ≡ m) × Away Wanted sheet m × Starts (entries sheet m) (listing f (steps_of ws) start m) × (m < length (listing f (steps_of ws) start m))
 
--- What a search says: the whole listing has nothing that is wanted, or a row that came by steps is wanted, or the rows do not settle it.
-abbrev pub Finds : Successor → (ℕ → Type 0) → List (Option Step) → ℕ → List Row → Progress → Type 0
-Finds f Wanted ts start sheet (Rows n) =
-    Settles f ts start Wanted (length sheet) × Whole f ts start n
-    × ((i : ℕ) → i < length (listing f ts start n) → Wanted (slice_index (listing f ts start n) i) → ⊥)
-Finds f Wanted ts start sheet (Goal i) =
-    Settles f ts start Wanted (length sheet) × (i < length sheet) × Sound (ByStep f ts) start sheet (i + 1) × Wanted (row sheet i).set
-Finds f Wanted ts start sheet Full = Settles f ts start Wanted (length sheet) → ⊥
+-- a sheet of m rows and a book of b places are in the limits, and so many rows settle the search
+abbrev pub InReach : Successor → (ℕ → Type 0) → List (Option Step) → ℕ → ℕ → ℕ → Type 0
+InReach f Wanted ts start m b = Sized m b × Settles f ts start Wanted m
+
+-- What a search with m rows answers, and what the plan book holds before and after: the places of a path to an entry that is wanted, the last first,
+-- or that no entry of the whole listing is wanted; and nothing where the rows do not settle it.
+abbrev pub Finds : Successor → (ℕ → Type 0) → List (Option Step) → ℕ → ℕ → List ℕ → List ℕ → Result (Option ℕ) Unsettled → Type 0
+Finds f Wanted ts start m book book' (Ok (Some k)) =
+    InReach f Wanted ts start m (length book) × (k < m) × ((e : ℕ) × Path f ts start (reverse (take k book')) e × Wanted e) × (drop k book' ≡ drop k book)
+Finds f Wanted ts start m book book' (Ok None) =
+    InReach f Wanted ts start m (length book)
+    × ((n : ℕ) × Whole f ts start n × ((i : ℕ) → i < length (listing f ts start n) → Wanted (slice_index (listing f ts start n) i) → ⊥))
+    × (book' ≡ book)
+Finds f Wanted ts start m book book' (Err e) = (InReach f Wanted ts start m (length book) → ⊥) × (book' ≡ book)

@@ -1,31 +1,35 @@
 //! The decider that goes backward, from the order on.
 
-ghost use Rattle.std.specs.Prelude.{◌≡◌};
 ghost use Rattle.rules.specs.Sets.{◌⊆◌};
 ghost use Rattle.deciders.specs.Reaches.{backward as backwards, BackwardReach};
 ghost use Rattle.std.proofs.Common.{rules};
 
 use crate::answer::{DeciderFault, Verdict};
-use crate::climb::climb;
 use crate::decider::Decider;
-use crate::limits::sizes_fit;
+use crate::listing::Unsettled;
 use crate::row::Row;
-use crate::search::{Direction, Progress, search};
+use crate::search::{Direction, find_way};
+use crate::struck::StruckOut;
 use rules::{Facts, Problem, Step, difference, is_subset, meets};
+
+/// Lists the sets from which the order can be reached.
+#[derive(Clone, Copy)]
+pub struct Backward;
 
 /// Regression: an entry is a set that is wanted, a step that gives a fact of it and takes none leads back to what it needs, and
 /// all of an entry is to stand.
-#[derive(Drop)]
-struct Regression {
-    standing: Facts,
-}
+impl Direction for Backward {
+    ghost makes = { backwards };
 
-impl Direction for Regression {
-    ghost makes = { λ _. backwards };
+    ghost start_of = { λ a. a.order };
 
     ghost wants = { λ a w. w ⊆ a.standing };
 
-    fn successor(&self, step: &Step, entry: Facts) -> Option<Facts> {
+    fn start(struck: &StruckOut) -> Facts {
+        struck.order
+    }
+
+    fn successor(step: &Step, entry: Facts) -> Option<Facts> {
         if meets(step.gives, entry) && !meets(step.takes, entry) {
             Some(difference(entry, step.gives) | step.needs)
         } else {
@@ -33,14 +37,10 @@ impl Direction for Regression {
         }
     }
 
-    fn is_wanted(&self, entry: Facts) -> bool {
-        is_subset(entry, self.standing)
+    fn is_wanted(struck: &StruckOut, entry: Facts) -> bool {
+        is_subset(entry, struck.standing)
     }
 }
-
-/// Lists the sets from which the order can be reached.
-#[derive(Clone, Copy)]
-pub struct Backward;
 
 impl Decider for Backward {
     const MARK: u8 = b'B';
@@ -58,23 +58,14 @@ impl Decider for Backward {
         sheet: &mut [Row],
         book: &mut [u8],
     ) -> Result<Verdict, DeciderFault> {
-        let beyond = DeciderFault::BeyondReach {
-            set: strike,
-            mark: Self::MARK,
-        };
-        if !sizes_fit(sheet.len(), book.len()) {
-            return Err(beyond);
-        }
-        let gone = strike | problem.waived;
-        let direction = Regression {
-            standing: difference(problem.standing.facts, gone),
-        };
-        let start = difference(problem.order, gone);
-        match search(&direction, start, problem.table.places(), gone, sheet) {
-            Progress::Rows(_) => Ok(Verdict::Blocked),
+        match find_way::<Backward>(problem, strike, sheet, book) {
+            Ok(None) => Ok(Verdict::Blocked),
             // the way up leads from a set that stands to the order
-            Progress::Goal(goal) => Ok(Verdict::Solvable(climb(sheet, goal, book) as u16)),
-            Progress::Full => Err(beyond),
+            Ok(Some(length)) => Ok(Verdict::Solvable(length as u16)),
+            Err(Unsettled) => Err(DeciderFault::BeyondReach {
+                set: strike,
+                mark: Self::MARK,
+            }),
         }
     }
 }

@@ -1,12 +1,11 @@
 //! The closure of a standing under steps, takes ignored.
 
-ghost use Rattle.std.specs.Prelude.{◌≡◌, map, length};
-ghost use Rattle.rules.specs.Planning.{place_without};
+ghost use Rattle.std.specs.Prelude.{length};
 ghost use Rattle.deciders.specs.Closures.{Closure, Round};
-ghost use Rattle.deciders.specs.Searches.{steps_of};
+ghost use Rattle.deciders.specs.Struck.{steps_of};
 
-use crate::action::{Action, strike_out};
-use rules::{Facts, Step};
+use crate::struck::{Action, StruckOut};
+use rules::Facts;
 
 /// One round: each action in turn whose needs are there adds its gives.
 fn round(actions: &[Action], facts: Facts) -> Facts
@@ -21,25 +20,18 @@ fn round(actions: &[Action], facts: Facts) -> Facts
     all
 }
 
-/// The closure of a standing under the actions: round after round, until nothing is added.
-fn close(actions: &[Action], standing: Facts) -> Facts
-    ensures { Closure (steps_of actions.now) standing result }
-{
-    let mut all = standing;
-    let mut more = round(actions, all);
-    while more != all {
-        all = more;
-        more = round(actions, all);
+impl StruckOut {
+    /// The closure of what stands under the steps: round after round, until nothing is added.
+    pub(crate) fn closure(&self) -> Facts
+        ensures { Closure (steps_of self.now.actions.items) self.now.standing result }
+    {
+        let mut all = self.standing;
+        loop {
+            let more = round(self.actions.as_slice(), all);
+            if more == all {
+                return all;
+            }
+            all = more;
+        }
     }
-    all
-}
-
-/// The closure of a standing under the steps at `places` without the facts of `gone`.
-pub(crate) fn closure(standing: Facts, places: &[Option<Step>], gone: Facts) -> Facts
-    requires { length places.now ≡ 64 }
-    ensures { Closure (map (place_without gone) places.now) standing result }
-{
-    let mut actions = [Action::NONE; 64];
-    let count = strike_out(places, gone, &mut actions);
-    close(&actions[..count], standing)
 }

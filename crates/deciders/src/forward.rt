@@ -1,31 +1,35 @@
 //! The decider that goes forward, from the standing on.
 
-ghost use Rattle.std.specs.Prelude.{◌≡◌};
 ghost use Rattle.rules.specs.Sets.{◌⊆◌};
 ghost use Rattle.rules.specs.Listing.{forward as forwards};
 ghost use Rattle.deciders.specs.Reaches.{ForwardReach};
 ghost use Rattle.std.proofs.Common.{rules};
 
 use crate::answer::{DeciderFault, Verdict};
-use crate::climb::climb;
 use crate::decider::Decider;
-use crate::limits::sizes_fit;
+use crate::listing::Unsettled;
 use crate::row::Row;
-use crate::search::{Direction, Progress, search};
-use rules::{Facts, Problem, Step, difference, is_subset};
+use crate::search::{Direction, find_way};
+use crate::struck::StruckOut;
+use rules::{Facts, Problem, Step, is_subset};
+
+/// Lists the standings that can be reached.
+#[derive(Clone, Copy)]
+pub struct Forward;
 
 /// Progression: an entry is a standing, a step that can be done leads on to its result, and the order is to stand.
-#[derive(Drop)]
-struct Progression {
-    order: Facts,
-}
+impl Direction for Forward {
+    ghost makes = { forwards };
 
-impl Direction for Progression {
-    ghost makes = { λ _. forwards };
+    ghost start_of = { λ a. a.standing };
 
     ghost wants = { λ a s. a.order ⊆ s };
 
-    fn successor(&self, step: &Step, entry: Facts) -> Option<Facts> {
+    fn start(struck: &StruckOut) -> Facts {
+        struck.standing
+    }
+
+    fn successor(step: &Step, entry: Facts) -> Option<Facts> {
         if step.can_be_done(entry) {
             Some(step.result(entry))
         } else {
@@ -33,14 +37,10 @@ impl Direction for Progression {
         }
     }
 
-    fn is_wanted(&self, entry: Facts) -> bool {
-        is_subset(self.order, entry)
+    fn is_wanted(struck: &StruckOut, entry: Facts) -> bool {
+        is_subset(struck.order, entry)
     }
 }
-
-/// Lists the standings that can be reached.
-#[derive(Clone, Copy)]
-pub struct Forward;
 
 impl Decider for Forward {
     const MARK: u8 = b'F';
@@ -58,27 +58,16 @@ impl Decider for Forward {
         sheet: &mut [Row],
         book: &mut [u8],
     ) -> Result<Verdict, DeciderFault> {
-        let beyond = DeciderFault::BeyondReach {
-            set: strike,
-            mark: Self::MARK,
-        };
-        if !sizes_fit(sheet.len(), book.len()) {
-            return Err(beyond);
-        }
-        let gone = strike | problem.waived;
-        let direction = Progression {
-            order: difference(problem.order, gone),
-        };
-        let start = difference(problem.standing.facts, gone);
-        match search(&direction, start, problem.table.places(), gone, sheet) {
-            Progress::Rows(_) => Ok(Verdict::Blocked),
-            Progress::Goal(goal) => {
-                // the way up leads from the goal to the start
-                let length = climb(sheet, goal, book);
+        match find_way::<Forward>(problem, strike, sheet, book) {
+            Ok(None) => Ok(Verdict::Blocked),
+            Ok(Some(length)) => {
                 book[..length].reverse();
                 Ok(Verdict::Solvable(length as u16))
             }
-            Progress::Full => Err(beyond),
+            Err(Unsettled) => Err(DeciderFault::BeyondReach {
+                set: strike,
+                mark: Self::MARK,
+            }),
         }
     }
 }

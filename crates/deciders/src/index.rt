@@ -1,22 +1,23 @@
 //! An index over the rows of a sheet, so that it costs little to ask whether a set is listed.
 
-ghost use Rattle.std.specs.Prelude.{◌≡◌, ℕ, ◌+◌, ◌<◌, ◌≤◌, List, [], length, set as written};
-ghost use Rattle.rules.specs.Listing.{listed};
-ghost use Rattle.deciders.specs.Rows.{entries};
-ghost use Rattle.deciders.specs.Chains.{hash_of, Indexed};
+ghost use Rattle.std.specs.Prelude.{◌≡◌, ◌+◌, ◌<◌, [], length, slice_index, slice_set};
+ghost use Rattle.deciders.specs.Chains.{hash_of, linked, Indexed};
 
 use crate::limits::MAX_ROWS;
-use crate::row::Row;
 use rules::Facts;
 
 /// For each hash a chain of the rows whose sets have it, the newest first. A link is a row's number and 1, or 0 at the end.
+// Kept: fixed memory with no heap, and a link in a `u16`, since an `Option<u16>` takes twice the room; the methods answer options
 #[derive(Drop)]
 pub struct Index {
     heads: [u16; MAX_ROWS],
     links: [u16; MAX_ROWS],
+    ghost head_count: { length heads ≡ 4096 },
+    ghost link_count: { length links ≡ 4096 },
 }
 
 /// The top 12 bits of the product with the golden ratio, which spread well.
+#[tactic(auto, unfolding(crate::specs::Chains::hash_of))]
 fn hash(set: Facts) -> usize
     ensures is { result ≡ hash_of set }
     ensures fits { result < 4096 }
@@ -35,32 +36,29 @@ impl Index {
         }
     }
 
-    /// Whether one of the first `n` rows holds `wanted`.
-    pub(crate) fn has(&self, sheet: &[Row], n: usize, wanted: Facts) -> bool
-        requires fits { (n ≤ length sheet.now) × (n ≤ 4096) }
-        requires index { Indexed self.now.heads self.now.links (entries sheet.now n) }
-        ensures { result ≡ listed wanted (entries sheet.now n) }
+    /// The newest row with the hash of this set.
+    pub(crate) fn first(&self, set: Facts) -> Option<usize>
+        ensures { result ≡ linked (slice_index self.now.heads (hash_of set)) }
     {
-        let mut link = self.heads[hash(wanted)] as usize;
-        while link != 0 {
-            if sheet[link - 1].set == wanted {
-                return true;
-            }
-            link = self.links[link - 1] as usize;
-        }
-        false
+        (self.heads[hash(set)] as usize).checked_sub(1)
     }
 
-    /// Writes the row `n`, and enters it.
-    pub(crate) fn add(&mut self, sheet: &mut [Row], n: usize, row: Row)
-        requires fits { (n < length sheet.old) × (n < 4096) }
-        requires index { Indexed self.old.heads self.old.links (entries sheet.old n) }
-        ensures sheet { sheet.new ≡ written sheet.old n row }
-        ensures index { Indexed self.new.heads self.new.links (entries sheet.new (n + 1)) }
+    /// The row before this one in its chain.
+    pub(crate) fn next(&self, row: usize) -> Option<usize>
+        requires { row < 4096 }
+        ensures { result ≡ linked (slice_index self.now.links row) }
     {
-        let head = &mut self.heads[hash(row.set)];
-        self.links[n] = *head;
-        *head = (n + 1) as u16;
-        sheet[n] = row;
+        (self.links[row] as usize).checked_sub(1)
+    }
+
+    /// Enters a new row with this set.
+    pub(crate) fn enter(&mut self, row: usize, set: Facts)
+        requires { row < 4096 }
+        ensures heads { self.new.heads ≡ slice_set self.old.heads (hash_of set) (row + 1) }
+        ensures links { self.new.links ≡ slice_set self.old.links row (slice_index self.old.heads (hash_of set)) }
+    {
+        let head = &mut self.heads[hash(set)];
+        self.links[row] = *head;
+        *head = (row + 1) as u16;
     }
 }

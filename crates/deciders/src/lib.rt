@@ -2,18 +2,18 @@
 
 #![tactic(auto)]
 
-mod action;
 mod answer;
 mod backward;
-mod climb;
 mod closure;
 mod decider;
 mod forward;
 mod index;
 mod limits;
+mod listing;
 mod row;
 mod screen;
 mod search;
+mod struck;
 mod theorems;
 
 pub use answer::{DeciderFault, Verdict};
@@ -23,4 +23,7 @@ pub use forward::Forward;
 pub use limits::{MAX_PLACES, MAX_ROWS};
 pub use row::Row;
 pub use screen::Screen;
-pub use theorems::{backward_finds_what_leads_to_the_order, screens_block_only_what_is_blocked};
+pub use theorems::{
+    backward_finds_what_leads_to_the_order, faults_are_equal_by_set_and_mark,
+    screens_block_only_what_is_blocked,
+};

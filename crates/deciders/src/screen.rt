@@ -5,11 +5,11 @@ ghost use Rattle.deciders.specs.Reaches.{ScreenReach};
 ghost use Rattle.std.proofs.Common.{rules};
 
 use crate::answer::{DeciderFault, Verdict};
-use crate::closure::closure;
 use crate::decider::Decider;
 use crate::limits::sizes_fit;
 use crate::row::Row;
-use rules::{Facts, Problem, difference, is_subset};
+use crate::struck::StruckOut;
+use rules::{Facts, Problem, is_subset};
 
 /// Blocks what is blocked even if no step takes anything, and asks the decider below it for the rest.
 #[derive(Drop)]
@@ -34,10 +34,9 @@ impl<D: Decider> Decider for Screen<D> {
         book: &mut [u8],
     ) -> Result<Verdict, DeciderFault> {
         if sizes_fit(sheet.len(), book.len()) {
-            let gone = strike | problem.waived;
-            let start = difference(problem.standing.facts, gone);
-            let all = closure(start, problem.table.places(), gone);
-            if !is_subset(difference(problem.order, gone), all) {
+            let mut struck = StruckOut::default();
+            struck.fill(problem, strike);
+            if !is_subset(struck.order, struck.closure()) {
                 return Ok(Verdict::Blocked);
             }
         }

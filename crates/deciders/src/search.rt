@@ -1,136 +1,117 @@
 //! A search: it lists entries on a sheet, expands each entry in turn, and stops at one that is wanted.
 
-ghost use Rattle.std.specs.Prelude.{◌≡◌, ℕ, ◌+◌, ◌<◌, ◌≤◌, T, map, length};
-ghost use Rattle.rules.specs.Planning.{place_without};
+ghost use Rattle.std.specs.Prelude.{◌≡◌, ℕ, ◌<◌, T, length};
+ghost use Rattle.rules.specs.Planning.{task, strike as strike_out};
 ghost use Rattle.rules.specs.Listing.{Successor};
+ghost use Rattle.deciders.specs.declared.struck.StruckOut.{StruckOut as Struck};
 ghost use Rattle.deciders.specs.Rows.{row as row_of, entries, Sound};
-ghost use Rattle.deciders.specs.Chains.{Indexed};
+ghost use Rattle.deciders.specs.Struck.{struck_out};
 ghost use Rattle.deciders.specs.Searches.{ByAction, Away, Expands, Lists, Finds};
 
-use crate::action::{Action, strike_out};
 use crate::index::Index;
+use crate::limits::{MAX_ROWS, sizes_fit};
+use crate::listing::{Listing, Unsettled};
 use crate::row::Row;
-use rules::{Facts, Step};
+use crate::struck::StruckOut;
+use rules::{Facts, Problem, Step};
 
-/// A direction of search: what a step makes of an entry, and which entries are wanted.
+/// A direction of search: where it starts, what a step makes of an entry, and which entries are wanted.
 pub trait Direction {
     // what a step makes of an entry
-    ghost makes: { Self → Successor };
+    ghost makes: { Successor };
+
+    // the entry to start from
+    ghost start_of: { Struck → ℕ };
 
     // the entry is wanted
-    ghost wants: { Self → ℕ → Type 0 };
+    ghost wants: { Struck → ℕ → Type 0 };
 
-    fn successor(&self, step: &Step, entry: Facts) -> Option<Facts>
-        ensures { result ≡ makes self.now step.now entry };
+    fn start(struck: &StruckOut) -> Facts
+        ensures { result ≡ start_of struck.now };
 
-    fn is_wanted(&self, entry: Facts) -> bool
-        ensures holds { T result → wants self.now entry }
-        ensures fails { wants self.now entry → T result };
+    fn successor(step: &Step, entry: Facts) -> Option<Facts>
+        ensures { result ≡ makes step.now entry };
+
+    fn is_wanted(struck: &StruckOut, entry: Facts) -> bool
+        ensures holds { T result → wants struck.now entry }
+        ensures fails { wants struck.now entry → T result };
 }
 
-/// How far a listing has come.
-#[derive(Clone, Copy)]
-pub enum Progress {
-    /// So many rows are filled, and none is wanted.
-    Rows(usize),
-    /// The row with this number is wanted.
-    Goal(usize),
-    /// An entry found no free row.
-    Full,
-}
-
-/// Adds what the actions make of the row `at`, where it is not yet among the rows, of which `from` are filled.
-fn expand<D: Direction>(
-    direction: &D,
-    actions: &[Action],
-    at: usize,
-    from: usize,
-    sheet: &mut [Row],
-    index: &mut Index,
-) -> Progress
-    requires fits { (length sheet.old ≤ 4096) × (at < from) }
-    requires sound { Sound (ByAction (D.Direction.makes direction.now) actions.now) (row_of sheet.old 0).set sheet.old from }
-    requires away { Away (D.Direction.wants direction.now) sheet.old from }
-    requires index { Indexed index.old.heads index.old.links (entries sheet.old from) }
-    ensures { Expands (D.Direction.makes direction.now) (D.Direction.wants direction.now) actions.now (row_of sheet.old 0).set (row_of sheet.old at).set (entries sheet.old from) sheet.new index.new.heads index.new.links result }
-{
-    let entry = sheet[at].set;
-    let mut n = from;
-    for action in actions {
-        if let Some(made) = direction.successor(&action.step, entry) {
-            if !index.has(sheet, n, made) {
-                if n == sheet.len() {
-                    return Progress::Full;
-                }
-                index.add(
-                    sheet,
-                    n,
-                    Row {
+impl<'a> Listing<'a> {
+    /// Lists what the actions make of the entry `at`, and says which of the new rows is wanted, if one is.
+    fn expand<D: Direction>(
+        &mut self,
+        struck: &StruckOut,
+        at: usize,
+        entry: Facts,
+    ) -> Result<Option<usize>, Unsettled>
+        requires here { (at < self.old.count) × ((row_of self.old.rows.now at).set ≡ entry) }
+        requires sound { Sound (ByAction D.makes struck.now.actions.items) (row_of self.old.rows.now 0).set self.old.rows.now self.old.count }
+        requires away { Away (D.wants struck.now) self.old.rows.now self.old.count }
+        ensures { Expands D.makes (D.wants struck.now) struck.now.actions.items (row_of self.old.rows.now 0).set entry (entries self.old.rows.now self.old.count) (length self.old.rows.now) self.new.rows.now self.new.count result }
+    {
+        for action in struck.actions.as_slice() {
+            if let Some(made) = D::successor(&action.step, entry) {
+                if !self.has(made) {
+                    let row = self.add(Row {
                         set: made,
                         parent: at as u16,
                         place: action.place,
-                    },
-                );
-                if direction.is_wanted(made) {
-                    return Progress::Goal(n);
+                    })?;
+                    if D::is_wanted(struck, made) {
+                        return Ok(Some(row));
+                    }
                 }
-                n += 1;
             }
         }
+        Ok(None)
     }
-    Progress::Rows(n)
-}
 
-/// Lists entries from `start` on, until one is wanted, none is left to expand, or no row is free.
-fn list<D: Direction>(
-    direction: &D,
-    start: Facts,
-    actions: &[Action],
-    sheet: &mut [Row],
-    index: &mut Index,
-) -> Progress
-    requires fits { (length sheet.old ≤ 4096) × (0 < length sheet.old) }
-    requires index { Indexed index.old.heads index.old.links (entries sheet.old 0) }
-    ensures { Lists (D.Direction.makes direction.now) (D.Direction.wants direction.now) actions.now start sheet.new result }
-{
-    index.add(
-        sheet,
-        0,
-        Row {
+    /// Lists entries until one is wanted, and says its row, or none is left to expand.
+    fn list<D: Direction>(&mut self, struck: &StruckOut) -> Result<Option<usize>, Unsettled>
+        requires none { self.old.count ≡ 0 }
+        requires some { 0 < length self.old.rows.now }
+        ensures { Lists D.makes (D.wants struck.now) struck.now.actions.items (D.start_of struck.now) (length self.old.rows.now) self.new.rows.now self.new.count result }
+    {
+        let start = D::start(struck);
+        self.add(Row {
             set: start,
-            parent: 0,
-            place: 0,
-        },
-    );
-    if direction.is_wanted(start) {
-        return Progress::Goal(0);
-    }
-    let mut n = 1;
-    let mut at = 0;
-    while at < n {
-        match expand(direction, actions, at, n, sheet, index) {
-            Progress::Rows(more) => n = more,
-            Progress::Goal(i) => return Progress::Goal(i),
-            Progress::Full => return Progress::Full,
+            ..Row::default()
+        })?;
+        if D::is_wanted(struck, start) {
+            return Ok(Some(0));
         }
-        at += 1;
+        for at in 0..MAX_ROWS {
+            let Some(entry) = self.get(at) else {
+                break;
+            };
+            if let Some(row) = self.expand::<D>(struck, at, entry)? {
+                return Ok(Some(row));
+            }
+        }
+        Ok(None)
     }
-    Progress::Rows(n)
 }
 
-/// Searches from `start` on by the steps at `places` without the facts of `gone`, which are struck out once.
-pub(crate) fn search<D: Direction>(
-    direction: &D,
-    start: Facts,
-    places: &[Option<Step>],
-    gone: Facts,
+/// Searches for a way from the start of a direction to an entry that is wanted, with the facts of `strike` struck out. Writes
+/// the places of the way, the last first, to the front of the book, and says how many there are.
+pub(crate) fn find_way<D: Direction>(
+    problem: &Problem,
+    strike: Facts,
     sheet: &mut [Row],
-) -> Progress
-    requires { (length places.now ≡ 64) × ((0 < length sheet.old) × (length sheet.old ≤ 4096)) }
-    ensures { Finds (D.Direction.makes direction.now) (D.Direction.wants direction.now) (map (place_without gone) places.now) start sheet.new result }
+    book: &mut [u8],
+) -> Result<Option<usize>, Unsettled>
+    ensures { Finds D.makes (D.wants (struck_out (task problem.now) strike)) (strike_out (task problem.now) strike).steps (D.start_of (struck_out (task problem.now) strike)) (length sheet.old) book.old book.new result }
 {
-    let mut actions = [Action::NONE; 64];
-    let count = strike_out(places, gone, &mut actions);
+    if !sizes_fit(sheet.len(), book.len()) {
+        return Err(Unsettled);
+    }
+    let mut struck = StruckOut::default();
+    struck.fill(problem, strike);
     let mut index = Index::new();
-    list(direction, start, &actions[..count], sheet, &mut index)
+    let mut listing = Listing::new(sheet, &mut index);
+    match listing.list::<D>(&struck)? {
+        Some(row) => Ok(Some(listing.climb(row, book))),
+        None => Ok(None),
+    }
 }

@@ -2,15 +2,13 @@ use Rattle.std.proofs.Common.{◌≡◌, ℕ, ◌+◌, T, List, get_or, Some, No
 use Rattle.std.proofs.lemmas.List.{get_or-map}
 use Rattle.rules.specs.declared.step.Step.{Step}
 use Rattle.rules.proofs.Sets.{inside→, →inside}
-use Rattle.deciders.specs.declared.action.Action.{Action}
+use Rattle.deciders.specs.declared.struck.Action.{Action}
 use Rattle.deciders.specs.Closures.{Round}
-use Rattle.deciders.specs.Searches.{steps_of, no_action}
-use Rattle.deciders.proofs.Closures.{round_start, round_not, round_add}
+use Rattle.deciders.specs.Struck.{steps_of}
+use Rattle.deciders.specs.Searches.{no_action}
+use Rattle.deciders.proofs.Closures.{round_not, round_add}
 use Rattle.deciders.proofs.closure.round.Goals as goal
 use Rattle.deciders.proofs.closure.round.Goals.{then-can_be_done, else-can_be_done}
-
-pub loop-action-init : goal.loop-action-init
-loop-action-init c = round_start (steps_of c.args.actions.now) c.args.facts
 
 pub loop-action-preserved : goal.loop-action-preserved
 loop-action-preserved c =

@@ -1,5 +1,5 @@
 use Rattle.deciders.specs.Closures.{Round}
-use Rattle.deciders.specs.Searches.{steps_of}
+use Rattle.deciders.specs.Struck.{steps_of}
 use Rattle.deciders.proofs.closure.round.Given as goal
 
 abbrev pub invariant-loop-action : goal.invariant-loop-action

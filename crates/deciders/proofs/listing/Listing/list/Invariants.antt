@@ -1,0 +1,8 @@
+use Rattle.std.proofs.Common.{length}
+use Rattle.deciders.proofs.Sheets.{Turn}
+use Rattle.deciders.proofs.listing.Listing.list.Given as goal
+
+abbrev pub invariant-loop-at : goal.invariant-loop-at
+invariant-loop-at g l =
+    Turn g.D.Direction.makes (g.D.Direction.wants l.struck) l.struck.actions.items (g.D.Direction.start_of l.struck) (length l.fn.self.rows.now)
+    l.self.rows.now l.self.count l.at

@@ -1,0 +1,57 @@
+//! A problem once facts are struck out.
+
+ghost use Rattle.std.specs.Prelude.{◌≡◌};
+ghost use Rattle.rules.specs.Planning.{task};
+ghost use Rattle.deciders.specs.Struck.{struck_out};
+
+use arrayvec::ArrayVec;
+use rules::{Facts, Problem, Step, difference};
+
+/// A step that is left once facts are struck out, with its place.
+#[derive(Clone, Copy)]
+pub struct Action {
+    pub step: Step,
+    pub place: u8,
+}
+
+// Kept: a derive needs a default of `Step`, which has none
+impl Default for Action {
+    fn default() -> Action {
+        Action {
+            step: Step {
+                needs: 0,
+                gives: 0,
+                takes: 0,
+            },
+            place: 0,
+        }
+    }
+}
+
+/// What is left of a problem once facts are struck out: what stands, what is ordered, and the steps, by rising place.
+#[derive(Default, Drop)]
+pub struct StruckOut {
+    pub standing: Facts,
+    pub order: Facts,
+    pub actions: ArrayVec<Action, 64>,
+}
+
+impl StruckOut {
+    /// Becomes the problem without the facts of `strike` and the waived ones. It is filled in its place, since it is large to move.
+    pub(crate) fn fill(&mut self, problem: &Problem, strike: Facts)
+        ensures { self.new ≡ struck_out (task problem.now) strike }
+    {
+        let gone = strike | problem.waived;
+        self.standing = difference(problem.standing.facts, gone);
+        self.order = difference(problem.order, gone);
+        self.actions.clear();
+        for (place, held) in problem.table.places().iter().enumerate() {
+            if let Some(step) = held {
+                self.actions.push(Action {
+                    step: step.without(gone),
+                    place: place as u8,
+                });
+            }
+        }
+    }
+}
