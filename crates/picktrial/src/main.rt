@@ -21,6 +21,7 @@ fn meets_all(groups: &[Facts], set: Facts) -> bool
 
 /// The sets of a line; nothing where a word is no 32-bit number.
 fn read_list(heap: Global, line: &str) -> Result<Option<Vec<Facts>>, AllocError> {
+    // Kept: a loop, since try_collect wants one error for both a bad word and no memory.
     let mut groups = Vec::new(heap);
     for word in line.split_whitespace() {
         let Ok(group) = word.parse::<Facts>() else {

@@ -1,10 +1,9 @@
 -- A list of groups that lose facts: nothing is listed twice, and what holds of each group without the facts holds of each that is left.
-use Rattle.std.proofs.Common.{◌≡◌, ℕ, suc, ◌+◌, ◌<◌, ◌≤◌, Bool, true, false, cond, eqb, T, List, [], ◌∷◌, ◌++◌, fold, length, get_or, take, drop, set, sym, refl, ap, ◌∙◌, subst, inl, inr, arith, length-append, length-set}
+use Rattle.std.proofs.Common.{◌≡◌, ℕ, suc, ◌+◌, ◌<◌, ◌≤◌, eqb, List, [], ◌∷◌, fold, length, get_or, refl, subst, inl, inr, arith, length-append}
 use Rattle.std.specs.List.{list_any}
-use Rattle.std.proofs.lemmas.List.{take_more, take_more_set, at_drop_more, drop-set-lt}
 use Rattle.rules.specs.Sets.{◌∖◌}
 use Rattle.rules.specs.Listing.{listed, adding}
-use Rattle.rules.proofs.Listing.{At, Apart, T→true, →listed, listed→, apart_adding, from_adding}
+use Rattle.rules.proofs.Listing.{At, Apart, apart_adding, from_adding}
 
 -- ---- a search through the list
 
@@ -23,10 +22,7 @@ losing_apart s gs [] apart = apart
 losing_apart s gs (h ∷ hs) apart = losing_apart s (adding (h ∖ s) gs) hs (apart_adding (h ∖ s) gs apart)
 
 adding_few : (s : ℕ) (l : List ℕ) → length (adding s l) ≤ length l + 1
-adding_few s l = elim (listed s l) as (λ b. length (cond b l (l ++ s ∷ [])) ≤ length l + 1) [
-  | true ↦ omega arith
-  | false ↦ omega (arith, length-append l (s ∷ []))
-]
+adding_few s l = grind (arith, length-append {A = ℕ})
 
 pub losing_few : (s : ℕ) (gs hs : List ℕ) → length (losing_on s gs hs) ≤ length gs + length hs
 losing_few s gs [] = omega arith

@@ -29,6 +29,7 @@ impl FinderFault {
     pub fn number(self) -> u8
         ensures { result ≡ number_of self }
     {
+        // Kept: a variant that holds a value has no discriminant to cast.
         match self {
             FinderFault::Case(refusal) => refusal.number(),
             FinderFault::SheetSize => 16,

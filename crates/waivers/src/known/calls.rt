@@ -70,8 +70,7 @@ impl KnownGroups {
         if place >= PLACES {
             return Err(Refusal::NoSuchPlace);
         }
-        let held = self.problem.table.get(place);
-        let Some(step) = held else {
+        let Some(step) = self.problem.table.get(place) else {
             return Err(Refusal::PlaceEmpty);
         };
         let standing = self.problem.standing.facts;

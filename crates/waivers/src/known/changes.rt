@@ -67,11 +67,9 @@ impl KnownGroups {
         ensures answer { result ≡ put_refusal (known self.old).task.steps place step }
         ensures after { known self.new ≡ after result (placed place step) (known self.old) }
     {
-        let put = self.problem.table.put(place, step);
-        if put.is_ok() {
-            self.groups.clear(); // the new step may make a group solvable
-        }
-        put
+        self.problem.table.put(place, step)?;
+        self.groups.clear(); // the new step may make a group solvable
+        Ok(())
     }
 
     /// Whether the places are a plan with the facts of `strike` struck out, and if not, why.
