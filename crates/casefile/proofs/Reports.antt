@@ -5,7 +5,7 @@ use Rattle.frames.specs.declared.report.Added.{Added}
 use Rattle.frames.specs.declared.report.Added.TheVariants.{Set, SetAndMark}
 use Rattle.frames.specs.Reports.{added_bytes, Printed}
 use Rattle.frames.specs.Texts.{LineAt}
-use Rattle.frames.proofs.Overlays.{length_line}
+use Rattle.frames.proofs.ReportLines.{length_line}
 use Rattle.casefile.specs.declared.fault.LineFault.{LineFault}
 use Rattle.casefile.specs.declared.serving.Reply.{Reply}
 use Rattle.casefile.specs.declared.serving.Reply.TheVariants.{Done, Found}
