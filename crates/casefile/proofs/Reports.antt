@@ -1,16 +1,42 @@
 -- Every answer has a report line that fits the buffer, and reading goes on.
-use Rattle.std.proofs.Common.{ℕ, ◌+◌, ◌≤◌, List, ◌∷◌, length, drop, Some, None, Ok, Err, Option, Result, ap, inl, inr, arith, length-append, length-drop}
+use Rattle.std.proofs.Common.{◌≡◌, ℕ, ◌≤◌, List, length, Some, None, Ok, Err, Option, Result, refl, arith}
 use Rattle.std.proofs.lemmas.List.{length-take-le}
+use Rattle.rules.specs.declared.refusal.Refusal.{Refusal}
+use Rattle.deciders.specs.declared.row.Row.{Row}
+use Rattle.waivers.specs.declared.fault.FinderFault.{FinderFault}
+use Rattle.waivers.specs.Searching.{Choice}
+use Rattle.frames.specs.declared.frame.Frame.{Frame}
+use Rattle.frames.specs.declared.frame.Frame.TheVariants.{Open, Find}
 use Rattle.frames.specs.declared.report.Added.{Added}
 use Rattle.frames.specs.declared.report.Added.TheVariants.{Set, SetAndMark}
 use Rattle.frames.specs.Reports.{added_bytes, Printed}
-use Rattle.frames.specs.Texts.{LineAt}
-use Rattle.frames.proofs.Overlays.{length_line}
+use Rattle.frames.proofs.ReportLines.{length_line}
+use Rattle.cases.specs.State.{State}
+use Rattle.cases.specs.Finding.{finding, Finds}
 use Rattle.casefile.specs.declared.fault.LineFault.{LineFault}
 use Rattle.casefile.specs.declared.serving.Reply.{Reply}
 use Rattle.casefile.specs.declared.serving.Reply.TheVariants.{Done, Found}
 use Rattle.casefile.specs.Faults.{added}
+use Rattle.casefile.specs.Serving.{called, looked, Serves}
 use Rattle.casefile.specs.Reporting.{reply_bytes, Fits}
+
+-- ---- the plan of an answer lies in the book
+
+fits_called : (a : Result Unit Refusal) (b : List ℕ) → Fits (called a) b
+fits_called (Ok u) b = tt
+fits_called (Err e) b = tt
+
+module _ (c : Choice) (R : ℕ → Type 0) (m : ℕ) (k k' : State) (s s' : List Row) (b b' : List ℕ) where
+  fits_looked : (a : Result (ℕ × ℕ × ℕ) FinderFault) (o : Result Unit FinderFault) → finding k (length s) (length b) ≡ o → Finds c R m k a k' s b s' b' o
+      → Fits (looked a) b'
+  fits_looked (Err e) o q finds = tt
+  fits_looked (Ok (x, count, n)) (Err e) q finds = cc
+  fits_looked (Ok (x, count, n)) (Ok u) q finds = grind arith
+
+  pub fits_served : (f : Frame) (r : Result Reply LineFault) → Serves c R m f k r k' s b s' b' → Fits r b'
+  fits_served Find r (a, q, finds) = rw q (fits_looked a (finding k (length s) (length b)) refl finds)
+  fits_served (Open number n standing order) r (q, same, kept, left) = rw q (fits_called _ b')
+  fits_served _ r h = rw h.0 (fits_called _ b')
 
 -- ---- a report line has at most 8,209 bytes
 
@@ -27,11 +53,3 @@ short_reply kind line (Err e) b fits = omega (arith, short_added (added e))
 -- so the report buffer is never too short for one
 pub always_room : (bytes before after : List ℕ) → length bytes ≤ 4104 → 8209 ≤ length before → Printed bytes before after None → ⊥
 always_room bytes before after few room (lt, same) = omega (arith, length_line bytes)
-
--- ---- reading goes on
-
-pub goes_on : (text line : List ℕ) (p l next : ℕ) → l ≤ p → length text ≤ 16384 → LineAt text p line next → (l + 1 ≤ next) × (next ≤ 16384)
-goes_on text line p l next counted short (lt, whole, inl (is, at)) =
-    let e = ap length is in
-    (omega arith, omega (arith, e, length-drop p text, length-append line (10 ∷ drop next text), length-drop next text))
-goes_on text line p l next counted short (lt, whole, inr (is, at)) = (omega arith, omega arith)

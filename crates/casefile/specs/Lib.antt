@@ -2,3 +2,4 @@
 pub mod Faults
 pub mod Serving
 pub mod Reporting
+pub mod Desks

@@ -8,4 +8,4 @@ mod serving;
 
 pub use fault::LineFault;
 pub use reading::{MAX_TEXT, MIN_REPORT, ReadFault, Reading};
-pub use serving::{Reply, serve};
+pub use serving::{Desk, Reply};

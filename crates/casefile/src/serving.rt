@@ -1,8 +1,8 @@
 //! What a frame does to a case.
 
-ghost use Rattle.std.specs.Prelude.{◌≡◌, ℕ, length};
-ghost use Rattle.cases.specs.State.{view};
-ghost use Rattle.casefile.specs.Serving.{called, Serves};
+ghost use Rattle.std.specs.Prelude.{◌≡◌};
+ghost use Rattle.casefile.specs.Serving.{called};
+ghost use Rattle.casefile.specs.Desks.{KeepsLoans, ServesAt};
 
 use crate::fault::LineFault;
 use cases::Case;
@@ -20,6 +20,17 @@ pub enum Reply {
     Found { set: Facts, size: u8, length: u16 },
 }
 
+/// What the lines of a case file work on: the case, the decider and the picker that it finds with, and the rows and the
+/// plan book for finding.
+#[derive(Drop)]
+pub struct Desk<'a, D, P> {
+    pub case: &'a mut Case,
+    pub decider: &'a mut D,
+    pub picker: &'a P,
+    pub sheet: &'a mut [Row],
+    pub book: &'a mut [u8],
+}
+
 /// What is replied to a call that the case made or refused.
 fn reply_to(made: Result<(), Refusal>) -> Result<Reply, LineFault>
     ensures { result ≡ called made }
@@ -28,47 +39,45 @@ fn reply_to(made: Result<(), Refusal>) -> Result<Reply, LineFault>
     Ok(Reply::Done)
 }
 
-/// Makes the call that a frame asks for.
-pub fn serve<D: Decider, P: Picker>(
-    frame: &Frame,
-    case: &mut Case,
-    decider: &mut D,
-    picker: &P,
-    sheet: &mut [Row],
-    book: &mut [u8],
-) -> Result<Reply, LineFault>
-    ensures { Serves (P.Picker.choice picker.now) (λ s. D.Decider.reach decider.old (view case.old).task s (length sheet.old) (length book.old)) D.Decider.signed frame.now (view case.old) result (view case.new) sheet.old book.old sheet.new book.new }
-{
-    match *frame {
-        Frame::Open {
-            number,
-            n,
-            standing,
-            order,
-        } => reply_to(case.open(number, n, standing, order)),
-        Frame::Put {
-            place,
-            needs,
-            gives,
-            takes,
-        } => {
-            let step = Step {
+impl<D: Decider, P: Picker> Desk<'_, D, P> {
+    /// Makes the call that a frame asks for.
+    pub fn serve(&mut self, frame: &Frame) -> Result<Reply, LineFault>
+        ensures same { KeepsLoans self.old self.new }
+        ensures serves { ServesAt P.Picker.choice D.Decider.reach D.Decider.signed frame.now self.old result self.new }
+    {
+        match *frame {
+            Frame::Open {
+                number,
+                n,
+                standing,
+                order,
+            } => reply_to(self.case.open(number, n, standing, order)),
+            Frame::Put {
+                place,
                 needs,
                 gives,
                 takes,
-            };
-            reply_to(case.put(place, step))
+            } => {
+                let step = Step {
+                    needs,
+                    gives,
+                    takes,
+                };
+                reply_to(self.case.put(place, step))
+            }
+            Frame::Grant(set) => reply_to(self.case.grant(set)),
+            Frame::Lapse(set) => reply_to(self.case.lapse(set)),
+            Frame::Order(set) => reply_to(self.case.order(set)),
+            Frame::Cancel(set) => reply_to(self.case.cancel(set)),
+            Frame::Withdraw(place) => reply_to(self.case.withdraw(place)),
+            Frame::Carry(place) => reply_to(self.case.carry(place)),
+            Frame::Find => {
+                let (set, size, length) = self
+                    .case
+                    .find(self.decider, self.picker, self.sheet, self.book)?;
+                Ok(Reply::Found { set, size, length })
+            }
+            Frame::DrawAndSign => reply_to(self.case.draw_and_sign()),
         }
-        Frame::Grant(set) => reply_to(case.grant(set)),
-        Frame::Lapse(set) => reply_to(case.lapse(set)),
-        Frame::Order(set) => reply_to(case.order(set)),
-        Frame::Cancel(set) => reply_to(case.cancel(set)),
-        Frame::Withdraw(place) => reply_to(case.withdraw(place)),
-        Frame::Carry(place) => reply_to(case.carry(place)),
-        Frame::Find => {
-            let (set, size, length) = case.find(decider, picker, sheet, book)?;
-            Ok(Reply::Found { set, size, length })
-        }
-        Frame::DrawAndSign => reply_to(case.draw_and_sign()),
     }
 }

@@ -4,7 +4,7 @@
 
 ghost use Rattle.std.specs.Prelude.{◌≡◌, take, IfOk, IfSome};
 
-use casefile::{MAX_TEXT, MIN_REPORT, ReadFault, Reading};
+use casefile::{Desk, MAX_TEXT, MIN_REPORT, ReadFault, Reading};
 use cases::Case;
 use deciders::{Forward, MAX_ROWS, Row, Screen};
 use pickers::CountingPicker;
@@ -33,20 +33,18 @@ pub fn serve_input(rt: &HostRuntime) -> anyhow::Result<()> {
     let mut sheet = vec![in heap; Row::default(); MAX_ROWS]?;
     let mut book = vec![in heap; 255u8; MAX_ROWS]?;
     let mut buffer = vec![in heap; 0u8; MIN_REPORT]?;
+    let mut desk = Desk {
+        case: &mut case,
+        decider: &mut decider,
+        picker: &CountingPicker,
+        sheet: &mut sheet,
+        book: &mut book,
+    };
     let mut reading = Reading::start();
     let mut output = BufWriter::new(heap, rt.stdout())?;
     // Each line takes a byte at least, so this many turns come past the last line.
     for _ in 0..ROOM {
-        let progress = reading.next(
-            &text,
-            &mut case,
-            &mut decider,
-            &CountingPicker,
-            &mut sheet,
-            &mut book,
-            &mut buffer,
-        );
-        match progress {
+        match reading.next(&text, &mut desk, &mut buffer) {
             Ok(Some(length)) => output.write_all(&buffer[0..length])?,
             Err(ReadFault::TextTooLong(length)) => {
                 output.write_all(&buffer[0..length])?;

@@ -12,25 +12,25 @@ use Rattle.frames.proofs.Spelling.{spells_unique}
 use Rattle.frames.proofs.Lengths.{length_bytes}
 
 -- an element of a chunk of two
-pub get_or-first_chunks
-    : (xs : List ℕ) (n i j : ℕ) → i < n → j < 2 → get_or (get_or (first_chunks 2 n xs) i []) j 0 ≡ get_or xs (2 * i + j) 0
-get_or-first_chunks xs zero i j h small = absurd (omega arith)
-get_or-first_chunks xs (suc n) zero j h small = get_or-take 2 xs j 0 small ∙ ap (λ (k : ℕ). get_or xs k 0) (omega arith)
-get_or-first_chunks xs (suc n) (suc i) j h small =
-    get_or-first_chunks (drop 2 xs) n i j (omega arith) small
+get_or-first_chunks
+    : (xs : List ℕ) (n i j k : ℕ) → k ≡ 2 * i + j → i < n → j < 2 → get_or (get_or (first_chunks 2 n xs) i []) j 0 ≡ get_or xs k 0
+get_or-first_chunks xs zero i j k at inside small = absurd (omega arith)
+get_or-first_chunks xs (suc n) zero j k at inside small =
+    let same : j ≡ k = omega arith in get_or-take 2 xs j 0 small ∙ ap (λ (m : ℕ). get_or xs m 0) same
+get_or-first_chunks xs (suc n) (suc i) j k at inside small =
+    let same : 2 + (2 * i + j) ≡ k = omega arith in
+    get_or-first_chunks (drop 2 xs) n i j (2 * i + j) refl (omega arith) small
     ∙ get_or-drop 2 xs (2 * i + j) 0
-    ∙ ap (λ (k : ℕ). get_or xs k 0) (omega arith)
+    ∙ ap (λ (m : ℕ). get_or xs m 0) same
 
 -- a pair of characters by its place in the line
 pub pair_at
     : (line : List ℕ) (pairs : List (List ℕ)) (n i : ℕ) → pairs ≡ first_chunks 2 n line → i < n
     → (get_or (get_or pairs i []) 0 0 ≡ get_or line (2 * i) 0) × (get_or (get_or pairs i []) 1 0 ≡ get_or line (2 * i + 1) 0)
-pair_at line pairs n i same inside = (
-  ap (λ (ps : List (List ℕ)). get_or (get_or ps i []) 0 0) same
-      ∙ get_or-first_chunks line n i 0 inside (omega arith)
-      ∙ ap (λ (k : ℕ). get_or line k 0) (omega arith),
-  ap (λ (ps : List (List ℕ)). get_or (get_or ps i []) 1 0) same ∙ get_or-first_chunks line n i 1 inside (omega arith),
-)
+pair_at line pairs n i same inside =
+    let high = get_or-first_chunks line n i 0 (2 * i) (omega arith) inside (omega arith) in
+    let low = get_or-first_chunks line n i 1 (2 * i + 1) (omega arith) inside (omega arith) in
+    rw same (high, low)
 
 -- the first n pairs of a line are these bytes, and the first of the bytes are held
 pub record DecodedFirst (line : List ℕ) (n : ℕ) (bytes held : List ℕ) : Type 0 where

@@ -1,5 +1,5 @@
 -- A line says one thing at most.
-use Rattle.std.proofs.Common.{◌≡◌, ℕ, ◌+◌, cond, eqb, List, [], ◌∷◌, length, get_or, Ok, Err, Result, sym, refl, ap, ◌∙◌, subst, arith}
+use Rattle.std.proofs.Common.{◌≡◌, ℕ, ◌+◌, cond, eqb, List, [], ◌∷◌, length, get_or, Ok, Err, Result, sym, refl, ap, ◌∙◌, subst}
 use Rattle.frames.specs.declared.frame.Frame.{Frame}
 use Rattle.frames.specs.declared.frame.Frame.TheVariants.{Open, Put, Grant, Lapse, Order, Cancel, Withdraw, Carry, Find, DrawAndSign}
 use Rattle.frames.specs.declared.frame.FrameFault.{FrameFault}
@@ -70,28 +70,23 @@ frame_of_bytes DrawAndSign = refl
 -- bytes say one thing at most
 one_meaning : (bytes : List ℕ) (r s : Result Frame FrameFault) → Means bytes r → Means bytes s → r ≡ s
 one_meaning bytes (Ok f) (Ok g) p q = ap Ok (sym (frame_of_bytes f) ∙ ap frame_of (p ∙ sym q) ∙ frame_of_bytes g)
-one_meaning bytes (Ok f) (Err Malformed) p q = absurd (let z = ap length (p ∙ q) in omega (arith, z))
-one_meaning bytes (Ok f) (Err (UnknownKind k)) p ((rest, q), none) =
-    absurd (none f (let same = p ∙ sym q in cc))
-one_meaning bytes (Ok f) (Err (WrongLength k)) p ((rest, q), some, other) =
-    absurd (other f (let same = p ∙ sym q in cc) (ap length p))
-one_meaning bytes (Err Malformed) (Ok g) p q = absurd (let z = ap length (q ∙ p) in omega (arith, z))
+one_meaning bytes (Ok f) (Err Malformed) p q = cc
+one_meaning bytes (Ok f) (Err (UnknownKind k)) p ((rest, q), none) = absurd (none f cc)
+one_meaning bytes (Ok f) (Err (WrongLength k)) p ((rest, q), some, other) = absurd (other f (cc) (ap length p))
+one_meaning bytes (Err Malformed) (Ok g) p q = cc
 one_meaning bytes (Err Malformed) (Err Malformed) p q = refl
-one_meaning bytes (Err Malformed) (Err (UnknownKind k)) p ((rest, q), none) = absurd (let z = ap length (q ∙ p) in omega (arith, z))
-one_meaning bytes (Err Malformed) (Err (WrongLength k)) p ((rest, q), some, other) = absurd (let z = ap length (q ∙ p) in omega (arith, z))
-one_meaning bytes (Err (UnknownKind j)) (Ok g) ((rest, p), none) q = absurd (none g (let same = q ∙ sym p in cc))
-one_meaning bytes (Err (UnknownKind j)) (Err Malformed) ((rest, p), none) q = absurd (let z = ap length (p ∙ q) in omega (arith, z))
+one_meaning bytes (Err Malformed) (Err (UnknownKind k)) p ((rest, q), none) = cc
+one_meaning bytes (Err Malformed) (Err (WrongLength k)) p ((rest, q), some, other) = cc
+one_meaning bytes (Err (UnknownKind j)) (Ok g) ((rest, p), none) q = absurd (none g cc)
+one_meaning bytes (Err (UnknownKind j)) (Err Malformed) ((rest, p), none) q = cc
 one_meaning bytes (Err (UnknownKind j)) (Err (UnknownKind k)) ((rest, p), none) ((rest2, q), none2) =
-    let same = p ∙ sym q in let kinds : j ≡ k = cc in cc
-one_meaning bytes (Err (UnknownKind j)) (Err (WrongLength k)) ((rest, p), none) ((rest2, q), some, other) =
-    absurd (let same = p ∙ sym q in let bytes : j ≡ kind_byte k = cc in none some.0 (ap kind_byte some.1 ∙ sym bytes))
-one_meaning bytes (Err (WrongLength j)) (Ok g) ((rest, p), some, other) q =
-    absurd (other g (let same = q ∙ sym p in cc) (ap length q))
-one_meaning bytes (Err (WrongLength j)) (Err Malformed) ((rest, p), some, other) q = absurd (let z = ap length (p ∙ q) in omega (arith, z))
-one_meaning bytes (Err (WrongLength j)) (Err (UnknownKind k)) ((rest, p), some, other) ((rest2, q), none) =
-    absurd (let same = p ∙ sym q in let bytes : kind_byte j ≡ k = cc in none some.0 (ap kind_byte some.1 ∙ bytes))
+    let same : j ≡ k = cc in cc
+one_meaning bytes (Err (UnknownKind j)) (Err (WrongLength k)) ((rest, p), none) ((rest2, q), (f, some), other) = absurd (none f cc)
+one_meaning bytes (Err (WrongLength j)) (Ok g) ((rest, p), some, other) q = absurd (other g (cc) (ap length q))
+one_meaning bytes (Err (WrongLength j)) (Err Malformed) ((rest, p), some, other) q = cc
+one_meaning bytes (Err (WrongLength j)) (Err (UnknownKind k)) ((rest, p), (f, some), other) ((rest2, q), none) = absurd (none f cc)
 one_meaning bytes (Err (WrongLength j)) (Err (WrongLength k)) ((rest, p), some, other) ((rest2, q), some2, other2) =
-    let same = p ∙ sym q in let bytes : kind_byte j ≡ kind_byte k = cc in ap (λ (kind : Kind). Err (WrongLength kind)) (one_kind j k bytes)
+    let same : j ≡ k = one_kind j k cc in cc
 
 -- what a line says, by the bytes that it spells: none, or those that say it
 data Said (line : List ℕ) : Result Frame FrameFault → Type 0 where
@@ -110,8 +105,8 @@ said line (Err (WrongLength k)) (bytes, p, ((rest, e), some, other)) =
 -- two readings of a line are one
 agree : (line : List ℕ) (r s : Result Frame FrameFault) → Said line r → Said line s → r ≡ s
 agree line r s (unread p) (unread q) = refl
-agree line r s (unread p) (spelled k rest q m) = absurd (let z = ap length (p (k ∷ rest) q) in omega (arith, z))
-agree line r s (spelled k rest q m) (unread p) = absurd (let z = ap length (p (k ∷ rest) q) in omega (arith, z))
+agree line r s (unread p) (spelled k rest q m) = let none = p (k ∷ rest) q in cc
+agree line r s (spelled k rest q m) (unread p) = let none = p (k ∷ rest) q in cc
 agree line r s (spelled j front p m) (spelled k rest q n) =
     let same = spells_unique line (k ∷ rest) (j ∷ front) q p in
     one_meaning (j ∷ front) r s m (subst (λ (bs : List ℕ). Means bs s) same n)

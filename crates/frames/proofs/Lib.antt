@@ -5,4 +5,4 @@ pub mod Lengths
 pub mod Decoding
 pub mod Determined
 pub mod Cuts
-pub mod Overlays
+pub mod ReportLines

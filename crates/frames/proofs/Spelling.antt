@@ -1,8 +1,9 @@
 -- Digits and the bytes that they spell: written digits are read back, and a line spells one list of bytes at most.
-use Rattle.std.proofs.Common.{◌≡◌, ℕ, zero, suc, ◌+◌, ◌*◌, ◌/◌, ◌%◌, ◌<◌, List, [], ◌∷◌, length, get_or, Some, refl, ap, ◌∙◌, arith}
-use Rattle.std.proofs.lemmas.List.{ext_get_or}
+use Rattle.std.proofs.Common.{◌≡◌, ℕ, ◌+◌, ◌*◌, ◌/◌, ◌%◌, ◌<◌, List, [], ◌∷◌, length, get_or, take, Some, refl, ap, ◌∙◌, arith}
+use Rattle.std.proofs.lemmas.List.{ext_get_or, length-take-le}
+use Rattle.std.proofs.lemmas.List.Concat.{get_or-flat_map}
 use Rattle.std.proofs.lemmas.Bool.Decides.{nat_tests}
-use Rattle.frames.specs.Digits.{digit_of, Pair, Spells, Bytes, capital, written}
+use Rattle.frames.specs.Digits.{digit_of, Pair, Spells, Bytes, capital, capitals, written}
 
 -- the written digit of a value is worth that value
 pub digit_of_capital : (v : ℕ) → v < 16 → digit_of (capital v) ≡ Some v
@@ -38,25 +39,19 @@ length_written [] = refl
 length_written (b ∷ bs) = omega (arith, length_written bs)
 
 -- the digits of the byte at i stand at twice i, and after it
-pub written_at
-    : (bytes : List ℕ) (i : ℕ) → i < length bytes
-    → (get_or (written bytes) (2 * i) 0 ≡ capital (get_or bytes i 0 / 16))
-    × (get_or (written bytes) (2 * i + 1) 0 ≡ capital (get_or bytes i 0 % 16))
-written_at [] i h = absurd (omega arith)
-written_at (b ∷ bs) zero h = (refl, refl)
-written_at (b ∷ bs) (suc i) h =
-    let rec = written_at bs i (omega arith) in
-    let even : 2 * suc i ≡ suc (suc (2 * i)) = omega arith in
-    let odd : 2 * suc i + 1 ≡ suc (suc (2 * i + 1)) = omega arith in
-    (ap (λ k. get_or (written (b ∷ bs)) k 0) even ∙ rec.0, ap (λ k. get_or (written (b ∷ bs)) k 0) odd ∙ rec.1)
+written_at
+    : (bytes : List ℕ) (i j k : ℕ) → k ≡ 2 * i + j → i < length bytes → j < 2
+    → get_or (written bytes) k 0 ≡ get_or (capitals (get_or bytes i 0)) j 0
+written_at bytes i j k at inside small =
+    let before : k ≡ length (written (take i bytes)) + j = omega (arith, length_written (take i bytes), length-take-le i bytes (omega arith)) in
+    ap (λ (n : ℕ). get_or (written bytes) n 0) before ∙ get_or-flat_map capitals bytes i j 0 0 inside small
 
 -- the written digits of a list of bytes spell it
-pub spells_written
-    : (bytes : List ℕ) → Bytes bytes → Spells (written bytes) bytes
+pub spells_written : (bytes : List ℕ) → Bytes bytes → Spells (written bytes) bytes
 spells_written bytes small = (
   length_written bytes,
   λ i h.
-      let at = written_at bytes i h in
-      let pair = pair_of_capitals (get_or bytes i 0) (small i h) in
-      rw (at.0, at.1) pair,
+      let high = written_at bytes i 0 (2 * i) (omega arith) h (omega arith) in
+      let low = written_at bytes i 1 (2 * i + 1) (omega arith) h (omega arith) in
+      rw (high, low) (pair_of_capitals (get_or bytes i 0) (small i h)),
 )

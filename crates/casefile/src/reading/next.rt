@@ -1,16 +1,14 @@
 //! Reading a case file line by line.
 
-ghost use Rattle.std.specs.Prelude.{◌≡◌, ℕ, ◌+◌, ◌<◌, ◌≤◌, List, length, Some, Result as Outcome};
+ghost use Rattle.std.specs.Prelude.{◌≡◌};
 ghost use Rattle.frames.specs.Reports.{Printed};
-ghost use Rattle.cases.specs.State.{view};
-ghost use Rattle.casefile.specs.Serving.{Asks};
-ghost use Rattle.casefile.specs.Reporting.{reply_bytes, too_long_bytes, Fits, ReadsNext};
+ghost use Rattle.casefile.specs.Reporting.{reply_bytes, Fits};
+ghost use Rattle.casefile.specs.Desks.{KeepsLoans, AsksAt, ReadsAt};
 
 use crate::fault::LineFault;
 use crate::reading::Reading;
-use crate::serving::{Reply, serve};
-use cases::Case;
-use deciders::{Decider, Row};
+use crate::serving::{Desk, Reply};
+use deciders::Decider;
 use frames::{Refused, next_line, read_frame, write_accepted, write_found, write_refused};
 use pickers::Picker;
 
@@ -36,49 +34,45 @@ struct Answer {
     reply: Result<Reply, LineFault>,
 }
 
-/// Makes the call that a line asks for.
-fn ask<D: Decider, P: Picker>(
-    line: &[u8],
-    case: &mut Case,
-    decider: &mut D,
-    picker: &P,
-    sheet: &mut [Row],
-    book: &mut [u8],
-) -> Answer
-    ensures asks { Asks (P.Picker.choice picker.now) (λ s. D.Decider.reach decider.old (view case.old).task s (length sheet.old) (length book.old)) D.Decider.signed line.now result.kind (view case.old) result.reply (view case.new) sheet.old book.old sheet.new book.new }
-    ensures fits { Fits result.reply book.new }
-{
-    match read_frame(line) {
-        Ok(frame) => Answer {
-            kind: u8::from(frame.kind()),
-            reply: serve(&frame, case, decider, picker, sheet, book),
-        },
-        Err(fault) => Answer {
-            kind: fault.kind(),
-            reply: Err(LineFault::Frame(fault)),
-        },
-    }
-}
-
-/// Writes the report line of an answer to the front of the buffer, and says how long it is.
-fn report(answer: &Answer, line: u16, book: &[u8], buffer: &mut [u8]) -> Option<usize>
-    requires { Fits answer.now.reply book.now }
-    ensures { Printed (reply_bytes answer.now.kind line answer.now.reply book.now) buffer.old buffer.new result }
-{
-    match answer.reply {
-        Ok(Reply::Done) => write_accepted(answer.kind, buffer),
-        Ok(Reply::Found { set, size, length }) => {
-            write_found(set, size, &book[..usize::from(length)], buffer)
+impl<D: Decider, P: Picker> Desk<'_, D, P> {
+    /// Makes the call that a line asks for.
+    fn ask(&mut self, line: &[u8]) -> Answer
+        ensures same { KeepsLoans self.old self.new }
+        ensures asks { AsksAt P.Picker.choice D.Decider.reach D.Decider.signed line.now result.kind self.old result.reply self.new }
+        ensures fits { Fits result.reply self.new.book.now }
+    {
+        match read_frame(line) {
+            Ok(frame) => Answer {
+                kind: u8::from(frame.kind()),
+                reply: self.serve(&frame),
+            },
+            Err(fault) => Answer {
+                kind: fault.kind(),
+                reply: Err(LineFault::Frame(fault)),
+            },
         }
-        Err(fault) => {
-            let refused = Refused {
-                kind: answer.kind,
-                refusal: fault.number(),
-                layer: u8::from(fault.layer()),
-                line,
-                added: fault.added(),
-            };
-            write_refused(&refused, buffer)
+    }
+
+    /// Writes the report line of an answer to the front of the buffer, and says how long it is.
+    fn report(&self, answer: &Answer, line: u16, buffer: &mut [u8]) -> Option<usize>
+        requires { Fits answer.now.reply self.now.book.now }
+        ensures { Printed (reply_bytes answer.now.kind line answer.now.reply self.now.book.now) buffer.old buffer.new result }
+    {
+        match answer.reply {
+            Ok(Reply::Done) => write_accepted(answer.kind, buffer),
+            Ok(Reply::Found { set, size, length }) => {
+                write_found(set, size, &self.book[..usize::from(length)], buffer)
+            }
+            Err(fault) => {
+                let refused = Refused {
+                    kind: answer.kind,
+                    refusal: fault.number(),
+                    layer: u8::from(fault.layer()),
+                    line,
+                    added: fault.added(),
+                };
+                write_refused(&refused, buffer)
+            }
         }
     }
 }
@@ -99,14 +93,11 @@ impl Reading {
     pub fn next<D: Decider, P: Picker>(
         &mut self,
         text: &[u8],
-        case: &mut Case,
-        decider: &mut D,
-        picker: &P,
-        sheet: &mut [Row],
-        book: &mut [u8],
+        desk: &mut Desk<D, P>,
         buffer: &mut [u8],
     ) -> Result<Option<usize>, ReadFault>
-        ensures { ReadsNext (P.Picker.choice picker.now) (λ s. D.Decider.reach decider.old (view case.old).task s (length sheet.old) (length book.old)) D.Decider.signed text.now self.old.position self.old.lines self.new.position self.new.lines (view case.old) (view case.new) sheet.old sheet.new book.old book.new buffer.old buffer.new result }
+        ensures same { KeepsLoans desk.old desk.new }
+        ensures reads { ReadsAt P.Picker.choice D.Decider.reach D.Decider.signed text.now self.old self.new desk.old desk.new buffer.old buffer.new result }
     {
         if buffer.len() < MIN_REPORT {
             return Err(ReadFault::BufferTooShort);
@@ -116,16 +107,20 @@ impl Reading {
                 kind: 0,
                 reply: Err(LineFault::TextTooLong),
             };
-            let length = report(&answer, 0, book, buffer).ok_or(ReadFault::BufferTooShort)?;
+            let length = desk
+                .report(&answer, 0, buffer)
+                .ok_or(ReadFault::BufferTooShort)?;
             return Err(ReadFault::TextTooLong(length));
         }
         let Some((line, next)) = next_line(text, self.position) else {
             return Ok(None);
         };
-        let answer = ask(line, case, decider, picker, sheet, book);
+        let answer = desk.ask(line);
         self.position = next;
         self.lines += 1;
-        let length = report(&answer, self.lines, book, buffer).ok_or(ReadFault::BufferTooShort)?;
+        let length = desk
+            .report(&answer, self.lines, buffer)
+            .ok_or(ReadFault::BufferTooShort)?;
         Ok(Some(length))
     }
 }

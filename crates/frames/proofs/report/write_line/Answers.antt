@@ -1,6 +1,6 @@
 use Rattle.std.proofs.Common.{ℕ, ◌++◌, Option, sym, refl, subst, arith}
 use Rattle.frames.specs.Reports.{Printed}
-use Rattle.frames.proofs.Overlays.{length_line_of, line_printed}
+use Rattle.frames.proofs.ReportLines.{length_line_of, line_printed}
 use Rattle.frames.proofs.report.write_line.Goals as goal
 
 pub returns-in_err-end : goal.returns-in_err-end

@@ -1,7 +1,7 @@
 -- Report lines, put together from their digits.
-use Rattle.std.proofs.Common.{◌≡◌, ℕ, ◌+◌, ◌-◌, ◌*◌, ◌<◌, ◌≤◌, List, [], ◌∷◌, ◌++◌, length, get_or, take, drop, set, Some, sym, ap, ◌∙◌, arith}
-use Rattle.std.proofs.lemmas.Grind.{flat_map-append}
-use Rattle.std.proofs.lemmas.List.{append_assoc, length-append, take_at, drop_at, drop-drop, drop_more, set_at}
+use Rattle.std.proofs.Common.{◌≡◌, ℕ, ◌+◌, ◌-◌, ◌*◌, ◌<◌, ◌≤◌, List, [], ◌∷◌, ◌++◌, length, get_or, drop, set, Some, sym, ap, ◌∙◌, arith}
+use Rattle.std.proofs.lemmas.Grind.{flat_map-append, common_steps}
+use Rattle.std.proofs.lemmas.List.{append_assoc, length-append, drop_more, set_at}
 use borrow.Rule.Slice.PartMut.{put_mid}
 use Rattle.frames.specs.Digits.{capitals, written}
 use Rattle.frames.specs.Reports.{report_line, Printed}
@@ -13,24 +13,20 @@ length_line bytes = omega (arith, length-append (written bytes) (10 ∷ []), len
 pub length_line_of : (head tail : List ℕ) → length (report_line (head ++ tail)) ≡ 2 * (length head + length tail) + 1
 length_line_of head tail = omega (arith, length_line (head ++ tail), length-append head tail)
 
--- two lists and a line feed, written one after another
-line_put
+-- two lists, written one after another
+two_put
     : (xs ys buffer : List ℕ) (m e : ℕ) → length xs ≡ m → length ys ≡ e - m → m ≤ e → e < length buffer
-    → set (put_mid m (e - m) (xs ++ drop m buffer) ys) e 10 ≡ (xs ++ ys ++ 10 ∷ []) ++ drop (e + 1) buffer
-line_put xs ys buffer m e first second low room =
+    → put_mid m (e - m) (xs ++ drop m buffer) ys ≡ (xs ++ ys) ++ drop e buffer
+two_put xs ys buffer m e first second low room = grind (arith, common_steps)
+
+-- and a line feed after them
+line_put
+    : (xs buffer : List ℕ) (e : ℕ) → length xs ≡ e → e < length buffer → set (xs ++ drop e buffer) e 10 ≡ (xs ++ 10 ∷ []) ++ drop (e + 1) buffer
+line_put xs buffer e long room =
     let after : List ℕ = drop (e + 1) buffer in
-    let there : m + (e - m) ≡ e = omega arith in
-    let front : take m (xs ++ drop m buffer) ≡ xs = take_at xs (drop m buffer) m first in
-    let rest : drop (e - m) (drop m (xs ++ drop m buffer)) ≡ get_or buffer e 0 ∷ after =
-    ap (drop (e - m)) (drop_at xs (drop m buffer) m first)
-    ∙ drop-drop (e - m) m buffer
-    ∙ ap (λ (i : ℕ). drop i buffer) there
-    ∙ drop_more buffer e 0 room in
-    ap (λ (b : List ℕ). set (b ++ (ys ++ drop (e - m) (drop m (xs ++ drop m buffer)))) e 10) front
-    ∙ ap (λ (r : List ℕ). set (xs ++ (ys ++ r)) e 10) rest
-    ∙ ap (λ (b : List ℕ). set b e 10) (sym (append_assoc xs ys (get_or buffer e 0 ∷ after)))
-    ∙ set_at (xs ++ ys) (get_or buffer e 0) after 10 e (omega (arith, length-append xs ys))
-    ∙ sym (append_assoc (xs ++ ys) (10 ∷ []) after)
+    ap (λ (rest : List ℕ). set (xs ++ rest) e 10) (drop_more buffer e 0 room)
+    ∙ set_at xs (get_or buffer e 0) after 10 e long
+    ∙ sym (append_assoc xs (10 ∷ []) after)
 
 -- the digits of two parts and a line feed are a report line
 pub line_printed
@@ -44,6 +40,7 @@ line_printed head tail buffer xs ys e first second end room =
     ap (λ (b : List ℕ). b ++ ys) first ∙ ap (λ (b : List ℕ). written head ++ b) second ∙ sym (flat_map-append capitals head tail) in (
       omega (arith, size),
       omega arith,
-      line_put xs ys buffer (2 * length head) e long_head (omega arith) (omega arith) room
+      ap (λ (b : List ℕ). set b e 10) (two_put xs ys buffer (2 * length head) e long_head (omega arith) (omega arith) room)
+          ∙ line_put (xs ++ ys) buffer e (omega (arith, length-append xs ys)) room
           ∙ ap (λ (b : List ℕ). (b ++ 10 ∷ []) ++ drop (e + 1) buffer) both,
     )

@@ -1,0 +1,41 @@
+-- What lines do at a desk: a case, a decider, a picker, a sheet and a plan book of the caller's.
+use Rattle.std.specs.Prelude.{◌≡◌, ℕ, List, length, Option, Result}
+use Rattle.rules.specs.Planning.{Task}
+use Rattle.waivers.specs.Searching.{Choice}
+use Rattle.frames.specs.declared.frame.Frame.{Frame}
+use Rattle.cases.specs.State.{view}
+use Rattle.casefile.specs.declared.fault.LineFault.{LineFault}
+use Rattle.casefile.specs.declared.reading.next.ReadFault.{ReadFault}
+use Rattle.casefile.specs.declared.reading.Reading.{Reading}
+use Rattle.casefile.specs.declared.serving.Desk.{Desk}
+use Rattle.casefile.specs.declared.serving.Reply.{Reply}
+use Rattle.casefile.specs.Serving.{Serves, Asks}
+use Rattle.casefile.specs.Reporting.{ReadsNext}
+
+module _ {D P : Type 0} where
+  -- the desk still has the caller's own case, decider, sheet and plan book
+  abbrev pub KeepsLoans : Desk D P → Desk D P → Type 0
+  KeepsLoans d d' =
+      (d'.case.ghost_name ≡ d.case.ghost_name) × (d'.decider.ghost_name ≡ d.decider.ghost_name)
+      × (d'.sheet.ghost_name ≡ d.sheet.ghost_name) × (d'.book.ghost_name ≡ d.book.ghost_name)
+
+  module _ (choice : P → Choice) (reach : D → Task → ℕ → ℕ → ℕ → Type 0) (mark : ℕ) where
+    -- the sets that the decider at the desk reaches, in the case, the sheet and the plan book there
+    abbrev pub reach_at : Desk D P → ℕ → Type 0
+    reach_at d x = reach d.decider.now (view d.case.now).task x (length d.sheet.now) (length d.book.now)
+
+    -- what a frame does at the desk
+    abbrev pub ServesAt : Frame → Desk D P → Result Reply LineFault → Desk D P → Type 0
+    ServesAt f d r d' =
+        Serves (choice d.picker.now) (reach_at d) mark f (view d.case.now) r (view d'.case.now) d.sheet.now d.book.now d'.sheet.now d'.book.now
+
+    -- what a line asks for at the desk, and the kind that it shows
+    abbrev pub AsksAt : List ℕ → ℕ → Desk D P → Result Reply LineFault → Desk D P → Type 0
+    AsksAt line kind d r d' =
+        Asks (choice d.picker.now) (reach_at d) mark line kind (view d.case.now) r (view d'.case.now) d.sheet.now d.book.now d'.sheet.now d'.book.now
+
+    -- what reading the next line of a text comes to at the desk: where reading stood and stands, and the report buffer before and after
+    abbrev pub ReadsAt : List ℕ → Reading → Reading → Desk D P → Desk D P → List ℕ → List ℕ → Result (Option ℕ) ReadFault → Type 0
+    ReadsAt text at at' d d' buf buf' r =
+        ReadsNext (choice d.picker.now) (reach_at d) mark text at.position at.lines at'.position at'.lines
+        (view d.case.now) (view d'.case.now) d.sheet.now d'.sheet.now d.book.now d'.book.now buf buf' r
