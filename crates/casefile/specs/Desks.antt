@@ -13,10 +13,10 @@ use Rattle.casefile.specs.Serving.{Serves, Asks}
 use Rattle.casefile.specs.Reporting.{ReadsNext}
 
 module _ {D P : Type 0} where
-  -- the desk still has the caller's own case, decider, sheet and plan book
+  -- the desk still has the caller's own case, decider, picker, sheet and plan book
   abbrev pub KeepsLoans : Desk D P → Desk D P → Type 0
   KeepsLoans d d' =
-      (d'.case.ghost_name ≡ d.case.ghost_name) × (d'.decider.ghost_name ≡ d.decider.ghost_name)
+      (d'.case.ghost_name ≡ d.case.ghost_name) × (d'.decider.ghost_name ≡ d.decider.ghost_name) × (d'.picker.now ≡ d.picker.now)
       × (d'.sheet.ghost_name ≡ d.sheet.ghost_name) × (d'.book.ghost_name ≡ d.book.ghost_name)
 
   module _ (choice : P → Choice) (reach : D → Task → ℕ → ℕ → ℕ → Type 0) (mark : ℕ) where

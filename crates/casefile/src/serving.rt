@@ -43,7 +43,7 @@ impl<D: Decider, P: Picker> Desk<'_, D, P> {
     /// Makes the call that a frame asks for.
     pub fn serve(&mut self, frame: &Frame) -> Result<Reply, LineFault>
         ensures same { KeepsLoans self.old self.new }
-        ensures serves { ServesAt P.Picker.choice D.Decider.reach D.Decider.signed frame.now self.old result self.new }
+        ensures serves { ServesAt P.choice D.reach D.signed frame.now self.old result self.new }
     {
         match *frame {
             Frame::Open {

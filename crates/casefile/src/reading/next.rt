@@ -38,7 +38,7 @@ impl<D: Decider, P: Picker> Desk<'_, D, P> {
     /// Makes the call that a line asks for.
     fn ask(&mut self, line: &[u8]) -> Answer
         ensures same { KeepsLoans self.old self.new }
-        ensures asks { AsksAt P.Picker.choice D.Decider.reach D.Decider.signed line.now result.kind self.old result.reply self.new }
+        ensures asks { AsksAt P.choice D.reach D.signed line.now result.kind self.old result.reply self.new }
         ensures fits { Fits result.reply self.new.book.now }
     {
         match read_frame(line) {
@@ -97,7 +97,7 @@ impl Reading {
         buffer: &mut [u8],
     ) -> Result<Option<usize>, ReadFault>
         ensures same { KeepsLoans desk.old desk.new }
-        ensures reads { ReadsAt P.Picker.choice D.Decider.reach D.Decider.signed text.now self.old self.new desk.old desk.new buffer.old buffer.new result }
+        ensures reads { ReadsAt P.choice D.reach D.signed text.now self.old self.new desk.old desk.new buffer.old buffer.new result }
     {
         if buffer.len() < MIN_REPORT {
             return Err(ReadFault::BufferTooShort);
