@@ -8,24 +8,10 @@ use arrayvec::ArrayVec;
 use rules::{Facts, Problem, Step, difference};
 
 /// A step that is left once facts are struck out, with its place.
-#[derive(Clone, Copy)]
+#[derive(Clone, Copy, Default)]
 pub struct Action {
     pub step: Step,
     pub place: u8,
-}
-
-// Kept: a derive needs a default of `Step`, which has none
-impl Default for Action {
-    fn default() -> Action {
-        Action {
-            step: Step {
-                needs: 0,
-                gives: 0,
-                takes: 0,
-            },
-            place: 0,
-        }
-    }
 }
 
 /// What is left of a problem once facts are struck out: what stands, what is ordered, and the steps, by rising place.

@@ -7,7 +7,7 @@ ghost use Rattle.rules.specs.Planning.{done, step_without};
 use crate::facts::{Facts, difference, is_subset};
 
 /// A licence step: it can be done where all its needs stand; then its takes go, and its gives stand.
-#[derive(Clone, Copy, PartialEq, Eq, Debug)]
+#[derive(Clone, Copy, PartialEq, Eq, Default, Debug)]
 pub struct Step {
     pub needs: Facts,
     pub gives: Facts,
