@@ -108,10 +108,6 @@ checks_once p l (Missing m) (Missing k) (pos, (s, on, q)) (pos', (s', on', q')) 
 
 -- ---- a walk that has gone through i of the places
 
-pub walk_none : (ts : List (Option Step)) (s : ℕ) (l : List ℕ) → Walk ts s (take 0 l) s
-walk_none ts s [] = refl
-walk_none ts s (a ∷ l) = refl
-
 module _ (p : Task) (x start : ℕ) (l : List ℕ) (i e : ℕ) (begins : start ≡ (strike p x).standing)
     (on : Walk (strike p x).steps start (take i l) e) where
   from_start : Walk (strike p x).steps (strike p x).standing (take i l) e
