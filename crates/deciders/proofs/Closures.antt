@@ -1,5 +1,5 @@
 -- Closures: one round, the closure as the last of many rounds, and what is outside it.
-use Rattle.std.proofs.Common.{◌≡◌, ℕ, zero, suc, ◌+◌, ◌<◌, ◌≤◌, ◌⊎◌, List, [], ◌∷◌, length, get_or, Some, None, Option, refl, ap, subst, inl, inr, arith}
+use Rattle.std.proofs.Common.{Bool, true, false, not, T, IsTrue, ◌↔◌, ◌≡◌, ℕ, zero, suc, ◌+◌, ◌<◌, ◌≤◌, ◌⊎◌, List, [], ◌∷◌, length, get_or, Some, None, Option, refl, ap, subst, inl, inr, arith}
 use Rattle.std.proofs.lemmas.Bool.{cases_eq}
 use Rattle.std.proofs.lemmas.Grind.{common_steps}
 use Rattle.rules.specs.declared.step.Step.{Step}
@@ -8,6 +8,7 @@ use Rattle.rules.specs.Planning.{Task, done, Leads}
 use Rattle.rules.proofs.Sets.{bits, sub_le, same_facts, inside_dec}
 use Rattle.deciders.specs.Closures.{Under, Closed, Closure, Round}
 use Rattle.deciders.specs.Struck.{actions_of, steps_of}
+use Rattle.deciders.specs.Reaches.{ScreenedOut}
 use Rattle.deciders.specs.Theorems.{ClosureExists, ClosureUnique, ScreenedBlocked}
 
 module _ (ts : List (Option Step)) where
@@ -116,6 +117,14 @@ stays_inside p c u s (i ∷ l) sub (t, is, can, on) =
 
 pub screened_blocked : ScreenedBlocked
 screened_blocked p (c, x, out) l plan = out (stays_inside p c x.0.1 p.standing l x.0.0 plan)
+
+-- the test of the order against a closure
+pub screens_out : (q : Task) (c : ℕ) (b : Bool) → Closure q.steps q.standing c → (T b → q.order ⊆ c) → (q.order ⊆ c → T b) → IsTrue (not b) ↔ ScreenedOut q
+screens_out q c true closure holds fails = (
+  (λ h. cc),
+  λ (d, other, out). absurd (out (subst (λ u. q.order ⊆ u) (closure_unique q.steps q.standing c d closure other) (holds tt))),
+)
+screens_out q c false closure holds fails = ((λ h. (c, closure, fails)), λ out. refl)
 
 -- ---- the actions have the closures that the places have
 

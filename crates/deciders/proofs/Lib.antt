@@ -7,4 +7,3 @@ pub mod Settled
 pub mod Closures
 pub mod Forwards
 pub mod Backwards
-pub mod Screens

@@ -1,7 +1,8 @@
 //! The screen, over any decider.
 
-ghost use Rattle.std.specs.Prelude.{◌≡◌};
-ghost use Rattle.deciders.specs.Reaches.{ScreenReach};
+ghost use Rattle.std.specs.Prelude.{◌≡◌, ◌↔◌, IsTrue};
+ghost use Rattle.rules.specs.Planning.{task, strike as strike_out};
+ghost use Rattle.deciders.specs.Reaches.{ScreenedOut, ScreenReach};
 ghost use Rattle.std.proofs.Common.{rules};
 
 use crate::answer::{DeciderFault, Verdict};
@@ -10,6 +11,15 @@ use crate::limits::sizes_fit;
 use crate::row::Row;
 use crate::struck::StruckOut;
 use rules::{Facts, Problem, is_subset};
+
+/// Whether the order cannot stand even if no step takes anything, with the facts of `strike` struck out.
+fn is_screened_out(problem: &Problem, strike: Facts) -> bool
+    ensures { IsTrue result ↔ ScreenedOut (strike_out (task problem.now) strike) }
+{
+    let mut struck = StruckOut::default();
+    struck.fill(problem, strike);
+    !is_subset(struck.order, struck.closure())
+}
 
 /// Blocks what is blocked even if no step takes anything, and asks the decider below it for the rest.
 #[derive(Drop)]
@@ -33,12 +43,8 @@ impl<D: Decider> Decider for Screen<D> {
         sheet: &mut [Row],
         book: &mut [u8],
     ) -> Result<Verdict, DeciderFault> {
-        if sizes_fit(sheet.len(), book.len()) {
-            let mut struck = StruckOut::default();
-            struck.fill(problem, strike);
-            if !is_subset(struck.order, struck.closure()) {
-                return Ok(Verdict::Blocked);
-            }
+        if sizes_fit(sheet.len(), book.len()) && is_screened_out(problem, strike) {
+            return Ok(Verdict::Blocked);
         }
         self.below.query(problem, strike, sheet, book)
     }
