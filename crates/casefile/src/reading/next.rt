@@ -48,7 +48,7 @@ impl<D: Decider, P: Picker> Desk<'_, D, P> {
             },
             Err(fault) => Answer {
                 kind: fault.kind(),
-                reply: Err(LineFault::Frame(fault)),
+                reply: Err(LineFault::from(fault)),
             },
         }
     }
