@@ -64,6 +64,7 @@ impl LineFault {
     }
 }
 
+// Kept: by hand, here and below, since the contracts say which fault a `?` makes, and a derive would not.
 impl From<FrameFault> for LineFault {
     ghost from_gives = { λ e r. r ≡ OfFrame e };
 

@@ -29,6 +29,7 @@ impl DeciderFault {
     pub fn number(self) -> u8
         ensures { result ≡ (reported self).0 }
     {
+        // Kept: the byte of a report line; a case that holds values has no discriminant to cast.
         match self {
             DeciderFault::BeyondReach { .. } => 21,
         }

@@ -23,6 +23,7 @@ pub trait Decider {
     ghost signed: { ℕ };
 
     /// Whether the problem has a plan without the facts of `strike`. The rows are free afterwards.
+    // Kept: sheet and book are two slices of the caller's, each of its own size: a rule of the project.
     fn query(
         &mut self,
         problem: &Problem,

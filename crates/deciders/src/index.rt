@@ -40,7 +40,7 @@ impl Index {
     pub(crate) fn first(&self, set: Facts) -> Option<usize>
         ensures { result ≡ linked (slice_index self.now.heads (hash_of set)) }
     {
-        (self.heads[hash(set)] as usize).checked_sub(1)
+        usize::from(self.heads[hash(set)]).checked_sub(1)
     }
 
     /// The row before this one in its chain.
@@ -48,7 +48,7 @@ impl Index {
         requires { row < 4096 }
         ensures { result ≡ linked (slice_index self.now.links row) }
     {
-        (self.links[row] as usize).checked_sub(1)
+        usize::from(self.links[row]).checked_sub(1)
     }
 
     /// Enters a new row with this set.

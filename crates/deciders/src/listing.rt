@@ -94,7 +94,7 @@ impl<'a> Listing<'a> {
                 return count;
             }
             *place = self.rows[row].place;
-            row = self.rows[row].parent as usize;
+            row = usize::from(self.rows[row].parent);
         }
         book.len()
     }

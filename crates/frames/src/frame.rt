@@ -73,6 +73,7 @@ impl FrameFault {
     pub fn kind(&self) -> u8
         ensures { result ≡ fault_kind self.now }
     {
+        // Kept: a byte, since an unknown kind is reported by the byte that was read.
         match self {
             FrameFault::Malformed => 0,
             FrameFault::UnknownKind(byte) => *byte,

@@ -52,6 +52,7 @@ impl FinderFault {
     }
 }
 
+// Kept: by hand, here and below, since the contracts say which fault a `?` makes, and a derive would not.
 impl From<DeciderFault> for FinderFault {
     ghost from_gives = { λ e r. r ≡ OfDecider e };
 

@@ -8,7 +8,8 @@ loop-count-preserved c =
     let x = c.loop-count.invariant in
     let row = c.loop-count.row in
     record {
-      few = omega (arith, c.requires.back row (omega arith) (omega arith));
-      climbs = climbs_more c.args.self.now.rows.now c.args.from row c.loop-count.count c.loop-count.book (omega arith) (omega arith) x.climbs;
+      few = omega (arith, c.requires.back row (omega arith) (omega arith), c.from-row.ensures);
+      climbs = rw c.from-row.ensures
+          (climbs_more c.args.self.now.rows.now c.args.from row c.loop-count.count c.loop-count.book (omega arith) (omega arith) x.climbs);
       rest = grind (arith, common_steps);
     }
