@@ -27,7 +27,7 @@ impl LineFault {
     pub fn number(&self) -> u8
         ensures { result ≡ number_of self.now }
     {
-        // Kept: the one place of the report's numbers; two refusals share one, so they are no discriminants.
+        // Kept: a variant that holds a value has no discriminant to cast.
         match self {
             LineFault::TextTooLong => 19,
             LineFault::Frame(fault) => fault.number(),

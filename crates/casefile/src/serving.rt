@@ -12,6 +12,7 @@ use pickers::Picker;
 use rules::{Facts, Refusal, Step};
 
 /// What an accepted frame answers.
+// Kept: both are answers to accepted frames; as an Option, None would read as no answer.
 #[derive(Clone, Copy, PartialEq, Eq, Debug)]
 pub enum Reply {
     /// The call was made.
@@ -22,13 +23,25 @@ pub enum Reply {
 
 /// What the lines of a case file work on: the case, the decider and the picker that it finds with, and the rows and the
 /// plan book for finding.
-#[derive(Drop)]
 pub struct Desk<'a, D, P> {
     pub case: &'a mut Case,
     pub decider: &'a mut D,
     pub picker: &'a P,
     pub sheet: &'a mut [Row],
     pub book: &'a mut [u8],
+}
+
+// By hand, since a derive would ask that decider and picker may be let go, and these are loans.
+impl<D, P> Drop for Desk<'_, D, P> {
+    fn drop(self) {
+        let Desk {
+            case: _,
+            decider: _,
+            picker: _,
+            sheet: _,
+            book: _,
+        } = self;
+    }
 }
 
 /// What is replied to a call that the case made or refused.

@@ -47,6 +47,10 @@ is_out k number s = k.slip_out && (k.number == number && finds k.finding s)
 abbrev pub deciding : State → ℕ → ℕ → Result Unit Refusal
 deciding k number s = cond (k.task.n == 0) (Err Unopened) (cond (is_out k number s) (Ok tt) (Err WrongSlip))
 
+-- whether this slip is refused
+abbrev pub deciding_on : State → Slip → Result Unit Refusal
+deciding_on k slip = deciding k slip.number slip.«set»
+
 -- a refusal hands the slip back
 abbrev pub HandsBack : Slip → Result Unit Refusal → Result Unit (Slip × Refusal) → Type 0
 HandsBack slip o (Ok u) = o ≡ Ok tt

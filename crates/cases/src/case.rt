@@ -12,7 +12,8 @@ use waivers::KnownGroups;
 
 /// A studio's case: its number, its problem with the groups that are known of it, the set that find found last, and
 /// whether a slip is out. A case whose problem has no facts is unopened.
-// Kept: no facts stands for unopened, as the plain case has it, and the flag stands beside a finding that is an Option: rules of the project.
+// Kept: the finding is an Option by a rule of the project, and the flag beside it, and no facts for unopened, are those of the plain case.
+// No Model, since the calls' clauses read the fields; `view` is the summary that callers read.
 #[derive(Drop)]
 pub struct Case {
     pub(crate) number: u32,

@@ -46,7 +46,7 @@ impl Case {
         Ok(())
     }
 
-    // Kept: decider, picker, sheet and book are four loans, as the search takes them; and the answer is a tuple by a rule of the project.
+    // Kept: decider, picker, sheet and book as loans of their own, as in the search; a tuple for the answer is a rule of the project.
     /// A smallest set of waivable facts that leaves a solvable case when struck out: the set, its size, and the length
     /// of the plan that is then in the book. The case keeps the set as its finding.
     pub fn find<D: Decider, P: Picker>(

@@ -83,6 +83,7 @@ pub fn run<D: Decider, P: Picker>(
 {
     let mut case = Case::new(heap)?;
     let mut answers = Vec::with_capacity(heap, calls.len())?;
+    // Kept: a loop, since the law is its invariant.
     for call in calls {
         let answer = make(&mut case, decider, picker, call);
         answers.push(answer)?;

@@ -3,7 +3,7 @@
 ghost use Rattle.std.specs.Prelude.{◌≡◌, Ok, Err, MatchResult};
 ghost use Rattle.rules.specs.Refusals.{after};
 ghost use Rattle.cases.specs.State.{view};
-ghost use Rattle.cases.specs.Slips.{drawing, drawn, slip_data, given, deciding, signed, torn, drawn_and_signed, HandsBack};
+ghost use Rattle.cases.specs.Slips.{drawing, drawn, slip_data, given, deciding_on, signed, torn, drawn_and_signed, HandsBack};
 
 use crate::case::Case;
 use crate::slip::Slip;
@@ -26,11 +26,11 @@ impl Case {
     }
 
     /// Refuses a slip that is not the one that is out.
-    fn check_slip(&self, number: u32, set: Facts) -> Result<(), Refusal>
-        ensures { result ≡ deciding (view self.now) number set }
+    fn check_slip(&self, slip: &Slip) -> Result<(), Refusal>
+        ensures { result ≡ deciding_on (view self.now) slip.now }
     {
         self.check_open()?;
-        if self.slip_out && self.number == number && self.finding == Some(set) {
+        if self.slip_out && self.number == slip.number && self.finding == Some(slip.set) {
             Ok(())
         } else {
             Err(Refusal::WrongSlip)
@@ -39,9 +39,9 @@ impl Case {
 
     /// Uses up the slip that is out, and says its set. Any other slip is handed back.
     fn use_up(&self, slip: Slip) -> Result<Facts, (Slip, Refusal)>
-        ensures { MatchResult result (λ s. (s ≡ slip.«set») × (deciding (view self.now) slip.number slip.«set» ≡ Ok tt)) (λ e. (e.0 ≡ slip) × (deciding (view self.now) slip.number slip.«set» ≡ Err e.1)) }
+        ensures { MatchResult result (λ s. (s ≡ slip.«set») × (deciding_on (view self.now) slip ≡ Ok tt)) (λ e. (e.0 ≡ slip) × (deciding_on (view self.now) slip ≡ Err e.1)) }
     {
-        match self.check_slip(slip.number, slip.set) {
+        match self.check_slip(&slip) {
             Ok(()) => {
                 let Slip { number: _, set } = slip;
                 Ok(set)
@@ -71,8 +71,8 @@ impl Case {
 
     /// Signs a slip: its set is waived, the finding is forgotten and the group list emptied. A refusal hands the slip back.
     pub fn sign(&mut self, slip: Slip) -> Result<(), (Slip, Refusal)>
-        ensures answer { HandsBack slip (deciding (view self.old) slip.number slip.«set») result }
-        ensures after { view self.new ≡ after (deciding (view self.old) slip.number slip.«set») (signed slip.«set») (view self.old) }
+        ensures answer { HandsBack slip (deciding_on (view self.old) slip) result }
+        ensures after { view self.new ≡ after (deciding_on (view self.old) slip) (signed slip.«set») (view self.old) }
     {
         let set = self.use_up(slip)?;
         self.waive(set);
@@ -81,8 +81,8 @@ impl Case {
 
     /// Tears a slip: only that it is in changes. A refusal hands the slip back.
     pub fn tear(&mut self, slip: Slip) -> Result<(), (Slip, Refusal)>
-        ensures answer { HandsBack slip (deciding (view self.old) slip.number slip.«set») result }
-        ensures after { view self.new ≡ after (deciding (view self.old) slip.number slip.«set») torn (view self.old) }
+        ensures answer { HandsBack slip (deciding_on (view self.old) slip) result }
+        ensures after { view self.new ≡ after (deciding_on (view self.old) slip) torn (view self.old) }
     {
         self.use_up(slip)?;
         self.slip_out = false;

@@ -2,7 +2,6 @@
 
 use crate::query::Query;
 use deciders::{Decider, DeciderFault, Row, Verdict};
-use rules::{Facts, Problem, difference, is_subset};
 use std::io;
 
 /// More than the limits allow.
@@ -10,23 +9,6 @@ const ROOM: usize = 4100;
 
 /// What a plan book holds before a query.
 const UNWRITTEN: u8 = 0xEE;
-
-/// Whether the places of `plan` can be done in turn and the order then stands, with the facts of `strike` struck out.
-pub fn walks(problem: &Problem, strike: Facts, plan: &[u8]) -> bool {
-    let gone = strike | problem.waived;
-    let mut facts = difference(problem.standing.facts, gone);
-    for place in plan {
-        let Some(step) = problem.table.get(*place) else {
-            return false;
-        };
-        let step = step.without(gone);
-        if !step.can_be_done(facts) {
-            return false;
-        }
-        facts = step.result(facts);
-    }
-    is_subset(difference(problem.order, gone), facts)
-}
 
 /// Whether nothing was written from the index `from` on.
 fn is_untouched(book: &[u8], from: usize) -> bool {
@@ -59,29 +41,17 @@ fn tell(
     verdict: Verdict,
     book: &[u8],
 ) -> io::Result<()> {
-    let Query {
-        problem,
-        strike,
-        rows,
-        places,
-    } = query;
     match verdict {
         Verdict::Solvable(length) => {
-            let k = usize::from(length);
-            let good = k < rows
-                && book
-                    .get(..k)
-                    .is_some_and(|plan| walks(problem, strike, plan));
-            let kept = is_untouched(book, k);
+            let good = query.is_plan(length, book);
+            let kept = is_untouched(book, usize::from(length));
             println!(rt;
-                "{name}, without {strike}, {rows} rows, {places} places: solvable by {length} steps, a plan: {good}, the rest kept: {kept}"
+                "{name}, {query}: solvable by {length} steps, a plan: {good}, the rest kept: {kept}"
             )
         }
         Verdict::Blocked => {
             let kept = is_untouched(book, 0);
-            println!(rt;
-                "{name}, without {strike}, {rows} rows, {places} places: blocked, all kept: {kept}"
-            )
+            println!(rt; "{name}, {query}: blocked, all kept: {kept}")
         }
     }
 }
@@ -93,17 +63,11 @@ fn tell_fault(
     fault: DeciderFault,
     book: &[u8],
 ) -> io::Result<()> {
-    let Query {
-        strike,
-        rows,
-        places,
-        ..
-    } = query;
     let number = fault.number();
     let layer = u8::from(fault.layer());
     let kept = is_untouched(book, 0);
     let DeciderFault::BeyondReach { set, mark } = fault;
     println!(rt;
-        "{name}, without {strike}, {rows} rows, {places} places: fault {number} of layer {layer}, set {set}, mark {mark}, all kept: {kept}"
+        "{name}, {query}: fault {number} of layer {layer}, set {set}, mark {mark}, all kept: {kept}"
     )
 }

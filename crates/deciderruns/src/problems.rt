@@ -9,9 +9,8 @@ pub fn free_facts() -> Result<Problem, Refusal> {
         table.put(
             fact,
             Step {
-                needs: 0,
                 gives: 1 << fact,
-                takes: 0,
+                ..Step::default()
             },
         )?;
     }
@@ -84,9 +83,8 @@ pub fn switches() -> Result<Problem, Refusal> {
         table.put(
             2 * i,
             Step {
-                needs: 0,
                 gives: fact,
-                takes: 0,
+                ..Step::default()
             },
         )?;
         table.put(

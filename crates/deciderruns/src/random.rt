@@ -1,6 +1,5 @@
 //! Random problems of six facts, each decided in every way.
 
-use crate::ask::walks;
 use crate::naive::reachable;
 use crate::query::Query;
 use deciders::{Backward, Decider, DeciderFault, Forward, Row, Screen, Verdict};
@@ -72,10 +71,7 @@ impl Tally {
         match answer {
             Ok(Verdict::Solvable(length)) => {
                 self.solvable = self.solvable.wrapping_add(1);
-                let k = usize::from(length);
-                let plan = book.get(..k).filter(|_| k < query.rows);
-                let walked = plan.is_some_and(|plan| walks(query.problem, query.strike, plan));
-                self.check(solvable && walked);
+                self.check(solvable && query.is_plan(length, book));
             }
             Ok(Verdict::Blocked) => {
                 self.blocked = self.blocked.wrapping_add(1);

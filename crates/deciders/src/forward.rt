@@ -58,6 +58,7 @@ impl Decider for Forward {
         sheet: &mut [Row],
         book: &mut [u8],
     ) -> Result<Verdict, DeciderFault> {
+        // Kept: the match stands here and in `Backward`, since a clause of a generic function can't name a MARK.
         match find_way::<Forward>(problem, strike, sheet, book) {
             Ok(None) => Ok(Verdict::Blocked),
             Ok(Some(length)) => {

@@ -7,7 +7,7 @@ use crate::limits::MAX_ROWS;
 use rules::Facts;
 
 /// For each hash a chain of the rows whose sets have it, the newest first. A link is a row's number and 1, or 0 at the end.
-// Kept: fixed memory with no heap, and a link in a `u16`, since an `Option<u16>` takes twice the room; the methods answer options
+// Kept: fixed memory with no heap, a rule of the project; options for links are no plainer, since the methods answer options
 #[derive(Drop)]
 pub struct Index {
     heads: [u16; MAX_ROWS],

@@ -15,6 +15,7 @@ use rules::Facts;
 pub struct Unsettled;
 
 /// The entries on the first rows of a sheet, with an index over them, so that it costs little to ask whether a set is listed.
+// Kept: rows and how many are filled, since the sheet is a slice of the caller's, a rule of the project.
 #[derive(Drop)]
 pub struct Listing<'a> {
     rows: &'a mut [Row],

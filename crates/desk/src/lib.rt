@@ -2,11 +2,11 @@
 
 #![tactic(auto)]
 
-ghost use Rattle.std.specs.Prelude.{◌≡◌, take, IfOk, IfSome};
+ghost use Rattle.std.specs.Prelude.{◌≡◌, ◌≤◌, take, vec_len, IfOk, IfSome};
 
 use casefile::{Desk, MAX_TEXT, MIN_REPORT, ReadFault, Reading};
 use cases::Case;
-use deciders::{Forward, MAX_ROWS, Row, Screen};
+use deciders::{Forward, MAX_PLACES, MAX_ROWS, Row, Screen};
 use pickers::CountingPicker;
 use std::alloc::Global;
 use std::io;
@@ -17,10 +17,13 @@ const ROOM: usize = MAX_TEXT + 1;
 
 /// The bytes of the input, of which more than a text may have are not read.
 fn read_text<R: Read + Drop>(heap: Global, input: R) -> io::Result<Vec<u8>>
-    ensures { IfOk result (λ text. IfSome (R.remaining input) (λ bytes. text.items ≡ take 16385 bytes)) }
+    ensures bounded { IfOk result (λ text. vec_len text ≤ 16385) }
+    ensures bytes { IfOk result (λ text. IfSome (R.remaining input) (λ bytes. text.items ≡ take 16385 bytes)) }
 {
     let mut text = Vec::new(heap);
     input.take(ROOM as u64).read_to_end(&mut text)?;
+    // whatever a reader says of itself
+    text.truncate(ROOM);
     Ok(text)
 }
 
@@ -31,7 +34,7 @@ pub fn serve_input(rt: &HostRuntime) -> anyhow::Result<()> {
     let mut case = Case::new(heap)?;
     let mut decider = Screen { below: Forward };
     let mut sheet = vec![in heap; Row::default(); MAX_ROWS]?;
-    let mut book = vec![in heap; 255u8; MAX_ROWS]?;
+    let mut book = vec![in heap; 0u8; MAX_PLACES]?;
     let mut buffer = vec![in heap; 0u8; MIN_REPORT]?;
     let mut desk = Desk {
         case: &mut case,

@@ -8,7 +8,7 @@ pub fn digit(character: u8) -> Option<u8>
     ensures { result ≡ digit_of character }
 {
     // Kept: a rule of the project, a match of the character over ranges.
-    match character as char {
+    match char::from(character) {
         '0'..='9' => Some(character - b'0'),
         'a'..='f' => Some(character - b'a' + 10),
         'A'..='F' => Some(character - b'A' + 10),

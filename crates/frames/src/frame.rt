@@ -85,7 +85,7 @@ impl FrameFault {
     pub fn number(&self) -> u8
         ensures { result ≡ fault_number self.now }
     {
-        // Kept: the one place of the report's numbers; a variant that holds a value has no discriminant to cast.
+        // Kept: a variant that holds a value has no discriminant to cast.
         match self {
             FrameFault::Malformed => 1,
             FrameFault::UnknownKind(_) => 2,

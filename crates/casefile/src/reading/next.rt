@@ -104,7 +104,7 @@ impl Reading {
         }
         if text.len() > MAX_TEXT {
             let answer = Answer {
-                kind: 0,
+                kind: 0, // as where no kind could be read
                 reply: Err(LineFault::TextTooLong),
             };
             let length = desk

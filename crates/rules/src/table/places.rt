@@ -29,11 +29,7 @@ impl StepTable {
     pub fn get(&self, place: u8) -> Option<Step>
         ensures { result ≡ slice_index_or self.now.places place None }
     {
-        if place < PLACES {
-            self.places[usize::from(place)]
-        } else {
-            None
-        }
+        *self.places.get(usize::from(place))?
     }
 
     /// Fills an empty place. The other 63 places keep their steps.

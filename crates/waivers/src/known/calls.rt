@@ -67,6 +67,7 @@ impl KnownGroups {
         ensures answer { result ≡ carry_refusal (known self.old).task place }
         ensures after { known self.new ≡ after result (carried place) (known self.old) }
     {
+        // Kept: the test of the place stands here and in `StepTable::clear`, which wants no step; a call for both is longer.
         if place >= PLACES {
             return Err(Refusal::NoSuchPlace);
         }

@@ -45,6 +45,7 @@ impl KnownGroups {
     }
 
     /// Sets the number of facts, the standing and the order; no group is known then.
+    // Kept: three arguments; a struct of them would be made for this one call, and taken apart in it.
     pub fn open(&mut self, n: u8, standing: Facts, order: Facts) -> Result<(), Refusal>
         ensures answer { result ≡ open_refusal n standing order }
         ensures after { known self.new ≡ after result (opened n standing order) (known self.old) }
