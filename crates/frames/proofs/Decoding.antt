@@ -7,7 +7,6 @@ use Rattle.frames.specs.declared.frame.FrameFault.{FrameFault}
 use Rattle.frames.specs.declared.frame.FrameFault.TheVariants.{Malformed, UnknownKind, WrongLength}
 use Rattle.frames.specs.Digits.{Pair, Spells}
 use Rattle.frames.specs.Frames.{Means, Reads}
-use Rattle.frames.specs.Kinds.{kind_byte}
 use Rattle.frames.proofs.Spelling.{spells_unique}
 use Rattle.frames.proofs.Lengths.{length_bytes}
 
@@ -81,7 +80,7 @@ means_all [] (Err Malformed) e = refl
 means_all (b ∷ bytes) (Err Malformed) e = absurd (let none = ap length e in omega (arith, none))
 means_all bytes (Err (UnknownKind kind)) (front, none) = (begins kind 14 front.0 bytes front.1, none)
 means_all bytes (Err (WrongLength kind)) (front, some, other) = (
-  begins (kind_byte kind) 14 front.0 bytes front.1,
+  begins kind 14 front.0 bytes front.1,
   some,
   λ f e same. other f e (omega (arith, length_bytes f, length-take 15 bytes)),
 )

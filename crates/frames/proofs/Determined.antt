@@ -8,7 +8,6 @@ use Rattle.frames.specs.declared.kind.Kind.{Kind}
 use Rattle.frames.specs.declared.kind.Kind.TheVariants as kinds
 use Rattle.frames.specs.Digits.{Spells}
 use Rattle.frames.specs.Frames.{kind_of, field_bytes, bytes_of, NoneOfLength, Means, Reads}
-use Rattle.frames.specs.Kinds.{kind_byte}
 use Rattle.frames.specs.Numbers.{number_of}
 use Rattle.frames.proofs.Spelling.{spells_unique}
 use Rattle.frames.proofs.Words.{number_of-word_bytes}
@@ -28,14 +27,6 @@ kind_of_byte byte =
     (cond (eqb byte 7) kinds.Withdraw
     (cond (eqb byte 8) kinds.Carry
     (cond (eqb byte 9) kinds.Find kinds.DrawAndSign))))))))
-
-kind_of_kind_byte : (kind : Kind) → kind_of_byte (kind_byte kind) ≡ kind
-unfolding kind_of_byte
-kind_of_kind_byte kinds.Open = refl
-kind_of_kind_byte _ = refl
-
-one_kind : (j k : Kind) → kind_byte j ≡ kind_byte k → j ≡ k
-one_kind j k e = sym (kind_of_kind_byte j) ∙ ap kind_of_byte e ∙ kind_of_kind_byte k
 
 -- the frame of a kind with these bytes, where there is one
 frame_of_kind : Kind → List ℕ → Frame
@@ -86,7 +77,7 @@ one_meaning bytes (Err (WrongLength j)) (Ok g) ((rest, p), some, other) q = absu
 one_meaning bytes (Err (WrongLength j)) (Err Malformed) ((rest, p), some, other) q = cc
 one_meaning bytes (Err (WrongLength j)) (Err (UnknownKind k)) ((rest, p), (f, some), other) ((rest2, q), none) = absurd (none f cc)
 one_meaning bytes (Err (WrongLength j)) (Err (WrongLength k)) ((rest, p), some, other) ((rest2, q), some2, other2) =
-    let same : j ≡ k = one_kind j k cc in cc
+    let same : j ≡ k = cc in cc
 
 -- what a line says, by the bytes that it spells: none, or those that say it
 data Said (line : List ℕ) : Result Frame FrameFault → Type 0 where
@@ -99,8 +90,8 @@ said line (Err Malformed) p = unread p
 said line (Err (UnknownKind k)) (bytes, p, ((rest, e), none)) =
     spelled k rest (subst (λ (bs : List ℕ). Spells line bs) (sym e) p) ((rest, refl), none)
 said line (Err (WrongLength k)) (bytes, p, ((rest, e), some, other)) =
-    spelled (kind_byte k) rest (subst (λ (bs : List ℕ). Spells line bs) (sym e) p)
-    ((rest, refl), some, subst (λ (bs : List ℕ). NoneOfLength (kind_byte k) (length bs)) (sym e) other)
+    spelled k rest (subst (λ (bs : List ℕ). Spells line bs) (sym e) p)
+    ((rest, refl), some, subst (λ (bs : List ℕ). NoneOfLength k (length bs)) (sym e) other)
 
 -- two readings of a line are one
 agree : (line : List ℕ) (r s : Result Frame FrameFault) → Said line r → Said line s → r ≡ s

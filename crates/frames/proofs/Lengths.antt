@@ -28,7 +28,8 @@ frame_of_each_kind kinds.DrawAndSign = (DrawAndSign, refl)
 pub means_of_kind
     : (kind : Kind) (rest bytes : List ℕ) (r : Option Frame) → kind_byte kind ∷ rest ≡ bytes
     → MatchOption r (NoneOfLength (kind_byte kind) (length (kind_byte kind ∷ rest))) (λ f. bytes_of f ≡ kind_byte kind ∷ rest)
-    → Means bytes (ok_or r (WrongLength kind))
+    → Means bytes (ok_or r (WrongLength (kind_byte kind)))
 means_of_kind _ rest bytes (Some f) same e = e ∙ same
 means_of_kind kind rest bytes None same none =
-    ((rest, same), frame_of_each_kind kind, λ f is other. none f is (other ∙ ap length (sym same)))
+    let (g, of_kind) = frame_of_each_kind kind in
+    ((rest, same), (g, ap kind_byte of_kind), λ f is other. none f is (other ∙ ap length (sym same)))

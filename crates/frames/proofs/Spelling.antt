@@ -25,9 +25,6 @@ pair_unique h l b c (x, y, p, q, e) (v, w, r, s, f) =
 pub digit_small : (c v : ℕ) → digit_of c ≡ Some v → v < 16
 digit_small c v e = grind (arith, nat_tests)
 
-pub pair_small : (h l b : ℕ) → Pair h l b → b < 256
-pair_small h l b (x, y, p, q, e) = omega (arith, digit_small h x p, digit_small l y q)
-
 -- a line spells one list of bytes at most
 pub spells_unique : (line bs cs : List ℕ) → Spells line bs → Spells line cs → bs ≡ cs
 spells_unique line bs cs (m, p) (n, q) =

@@ -49,13 +49,13 @@ bytes_of f = kind_of f ∷ field_bytes f
 abbrev pub fault_number : FrameFault → ℕ
 fault_number Malformed = 1
 fault_number (UnknownKind byte) = 2
-fault_number (WrongLength _) = 3
+fault_number (WrongLength kind) = 3
 
 -- the kind that a report gives with each fault
 abbrev pub fault_kind : FrameFault → ℕ
 fault_kind Malformed = 0
 fault_kind (UnknownKind byte) = byte
-fault_kind (WrongLength kind) = kind_byte kind
+fault_kind (WrongLength kind) = kind
 
 -- no frame of this kind has this many bytes
 abbrev pub NoneOfLength : ℕ → ℕ → Type 0
@@ -69,7 +69,7 @@ Means bytes (Err Malformed) = bytes ≡ []
 Means bytes (Err (UnknownKind kind)) =
     ((rest : List ℕ) × (kind ∷ rest ≡ bytes)) × ((f : Frame) → kind_of f ≢ kind)
 Means bytes (Err (WrongLength kind)) =
-    ((rest : List ℕ) × (kind_byte kind ∷ rest ≡ bytes)) × ((f : Frame) × (frame_kind f ≡ kind)) × NoneOfLength (kind_byte kind) (length bytes)
+    ((rest : List ℕ) × (kind ∷ rest ≡ bytes)) × ((f : Frame) × (kind_of f ≡ kind)) × NoneOfLength kind (length bytes)
 
 -- what a line says: what the bytes say that it spells; it is malformed where it spells no byte at all
 abbrev pub Reads : List ℕ → Result Frame FrameFault → Type 0

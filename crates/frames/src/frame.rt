@@ -44,8 +44,8 @@ pub enum FrameFault {
     Malformed,
     /// The first byte is no kind.
     UnknownKind(u8),
-    /// The line has another length than the frames of its kind.
-    WrongLength(Kind),
+    /// The first byte is a kind, and the line has another length than its frames.
+    WrongLength(u8),
 }
 
 impl Frame {
@@ -73,11 +73,10 @@ impl FrameFault {
     pub fn kind(&self) -> u8
         ensures { result ≡ fault_kind self.now }
     {
-        // Kept: a byte, since an unknown kind is reported by the byte that was read.
+        // Kept: a byte, since an unknown kind is reported by the byte that was read, and Kind would ask more of who makes a fault.
         match self {
             FrameFault::Malformed => 0,
-            FrameFault::UnknownKind(byte) => *byte,
-            FrameFault::WrongLength(kind) => u8::from(*kind),
+            FrameFault::UnknownKind(byte) | FrameFault::WrongLength(byte) => *byte,
         }
     }
 
@@ -184,7 +183,7 @@ fn frame_of(bytes: &[u8]) -> Result<Frame, FrameFault>
         return Err(FrameFault::Malformed);
     };
     let kind = Kind::try_from(*byte)?;
-    frame_of_kind(kind, rest).ok_or(FrameFault::WrongLength(kind))
+    frame_of_kind(kind, rest).ok_or(FrameFault::WrongLength(*byte))
 }
 
 /// The byte that two digits stand for.
