@@ -1,11 +1,16 @@
 //! Calls, each made in one line.
 
+ghost use Rattle.std.specs.Prelude.{◌≡◌};
+ghost use Rattle.cases.specs.declared.call.Call.TheVariants.{Open as OfOpen, Put as OfPut, Sign as OfSign, Tear as OfTear};
+
 use cases::Call;
 use deciders::Row;
 use rules::{Facts, Step};
 use std::alloc::{AllocError, Global};
 
-pub fn open(number: u32, n: u8, standing: Facts, order: Facts) -> Call {
+pub fn open(number: u32, n: u8, standing: Facts, order: Facts) -> Call
+    ensures { result ≡ OfOpen number n standing order }
+{
     Call::Open {
         number,
         n,
@@ -14,7 +19,9 @@ pub fn open(number: u32, n: u8, standing: Facts, order: Facts) -> Call {
     }
 }
 
-pub fn put(place: u8, needs: Facts, gives: Facts, takes: Facts) -> Call {
+pub fn put(place: u8, needs: Facts, gives: Facts, takes: Facts) -> Call
+    ensures { result ≡ OfPut place (record { needs = needs; gives = gives; takes = takes }) }
+{
     let step = Step {
         needs,
         gives,
@@ -30,10 +37,14 @@ pub fn find(heap: Global, rows: usize, places: usize) -> Result<Call, AllocError
     Ok(Call::Find { sheet, book })
 }
 
-pub fn sign(number: u32, set: Facts) -> Call {
+pub fn sign(number: u32, set: Facts) -> Call
+    ensures { result ≡ OfSign number «set» }
+{
     Call::Sign { number, set }
 }
 
-pub fn tear(number: u32, set: Facts) -> Call {
+pub fn tear(number: u32, set: Facts) -> Call
+    ensures { result ≡ OfTear number «set» }
+{
     Call::Tear { number, set }
 }
