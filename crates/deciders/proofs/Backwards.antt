@@ -2,14 +2,14 @@
 use Rattle.std.proofs.Common.{◌≡◌, ℕ, Bool, true, false, cond, T, List, [], ◌∷◌, ◌++◌, reverse, get_or, Some, None, sym, refl, ap, ◌∙◌, subst, inl, inr, arith}
 use mathlib.Core.List.{reverse-append, reverse-reverse}
 use Rattle.rules.specs.declared.step.Step.{Step}
-use Rattle.rules.specs.Sets.{bit, ◌⊆◌, ◌∪◌, ◌∖◌, Meets}
+use Rattle.rules.specs.Sets.{bit, ◌⊆◌, ◌∪◌, ◌∖◌, Meets, shares}
 use Rattle.rules.specs.Planning.{Task, held, done, Walk, Plan, strike, gone, Consistent}
 use Rattle.rules.specs.Listing.{Path, forward}
 use Rattle.rules.proofs.Sets.{bits, meets_or_apart, apart→, share_test, test_share}
 use Rattle.rules.proofs.Plans.{held_struck, some_without, leads→, →leads}
 use Rattle.rules.proofs.Listing.{T→true, path_push, listed_reached, reached_listed}
 use Rattle.rules.proofs.Forwards.{forward_walks, →forward}
-use Rattle.deciders.specs.Reaches.{shares, backward}
+use Rattle.deciders.specs.Reaches.{backward}
 use Rattle.deciders.specs.Theorems.{wanted, WantedLeads, LeadsWanted, WantedBlocked, BackwardExample}
 
 -- ---- a step leads backward exactly where it gives a fact that is wanted and takes none

@@ -1,6 +1,6 @@
 -- The reaches of the deciders that ship: which struck-out tasks they settle, with how many rows.
-use Rattle.std.specs.Prelude.{ℕ, Bool, cond, not, ◌⊎◌, Some, None, ◌==◌}
-use Rattle.rules.specs.Sets.{◌⊆◌, ◌∪◌, ◌∩◌, ◌∖◌}
+use Rattle.std.specs.Prelude.{ℕ, cond, ◌⊎◌, Some, None}
+use Rattle.rules.specs.Sets.{◌⊆◌, ◌∪◌, ◌∖◌, shares}
 use Rattle.rules.specs.Planning.{Task, strike}
 use Rattle.rules.specs.Listing.{Successor, Settles, forward}
 use Rattle.deciders.specs.Answers.{Sized}
@@ -9,10 +9,6 @@ use Rattle.deciders.specs.Closures.{Closure}
 -- Forward lists standings, from the standing on, until one contains the order.
 abbrev pub ForwardReach : Task → ℕ → ℕ → ℕ → Type 0
 ForwardReach p x m b = Sized m b × Settles forward (strike p x).steps (strike p x).standing (λ s. (strike p x).order ⊆ s) m
-
--- the test whether a and b share a fact
-abbrev pub shares : ℕ → ℕ → Bool
-shares a b = not ((a ∩ b) == 0)
 
 -- backward: by a step that gives a fact of w and takes none of it, w without the gives and then with the needs
 abbrev pub backward : Successor

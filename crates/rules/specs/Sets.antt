@@ -1,5 +1,5 @@
 -- Sets of facts. A set is a number: the digit of worth 2 ^ f is 1 where the fact f is in the set.
-use Rattle.std.specs.Prelude.{◌≡◌, ℕ, ◌+◌, ◌-◌, ◌/◌, ◌%◌, ◌^◌, ◌<◌, ◌≤◌, Bool, T, ◌⊎◌, ◌↔◌, ◌==◌, bit_and, bit_or, bit_xor, count_ones}
+use Rattle.std.specs.Prelude.{◌≡◌, ℕ, ◌+◌, ◌-◌, ◌/◌, ◌%◌, ◌^◌, ◌<◌, ◌≤◌, Bool, not, T, ◌⊎◌, ◌↔◌, ◌==◌, bit_and, bit_or, bit_xor, count_ones}
 
 infix 50 ◌∈◌
 infix 50 ◌⊆◌
@@ -33,6 +33,10 @@ a ∖ b = bit_xor a (bit_and a b)
 -- a and b share a fact
 abbrev pub Meets : ℕ → ℕ → Type 0
 Meets a b = (f : ℕ) × (f ∈ a) × (f ∈ b)
+
+-- the test whether a and b share a fact
+abbrev pub shares : ℕ → ℕ → Bool
+shares a b = not ((a ∩ b) == 0)
 
 -- the set of the fact f alone
 abbrev pub single : ℕ → ℕ
