@@ -12,7 +12,8 @@ use Rattle.frames.specs.declared.report.Added.TheVariants.{Set, SetAndMark}
 use Rattle.frames.specs.Reports.{added_bytes, Printed}
 use Rattle.frames.proofs.ReportLines.{length_line}
 use Rattle.cases.specs.State.{State}
-use Rattle.cases.specs.Finding.{finding, Finds}
+use Rattle.cases.specs.Plain.{seeking}
+use Rattle.cases.specs.Finding.{Finds}
 use Rattle.casefile.specs.declared.fault.LineFault.{LineFault}
 use Rattle.casefile.specs.declared.serving.Reply.{Reply}
 use Rattle.casefile.specs.declared.serving.Reply.TheVariants.{Done, Found}
@@ -27,14 +28,14 @@ fits_called (Ok u) b = tt
 fits_called (Err e) b = tt
 
 module _ (c : Choice) (R : ℕ → Type 0) (m : ℕ) (k k' : State) (s s' : List Row) (b b' : List ℕ) where
-  fits_looked : (a : Result (ℕ × ℕ × ℕ) FinderFault) (o : Result Unit FinderFault) → finding k (length s) (length b) ≡ o → Finds c R m k a k' s b s' b' o
+  fits_looked : (a : Result (ℕ × ℕ × ℕ) FinderFault) (o : Result Unit FinderFault) → seeking k.plain (length s) (length b) ≡ o → Finds c R m k a k' s b s' b' o
       → Fits (looked a) b'
   fits_looked (Err e) o q finds = tt
   fits_looked (Ok (x, count, n)) (Err e) q finds = cc
   fits_looked (Ok (x, count, n)) (Ok u) q finds = grind arith
 
   pub fits_served : (f : Frame) (r : Result Reply LineFault) → Serves c R m f k r k' s b s' b' → Fits r b'
-  fits_served Find r (a, q, finds) = rw q (fits_looked a (finding k (length s) (length b)) refl finds)
+  fits_served Find r (a, q, finds) = rw q (fits_looked a (seeking k.plain (length s) (length b)) refl finds)
   fits_served (Open number n standing order) r (q, same, kept, left) = rw q (fits_called _ b')
   fits_served _ r h = rw h.0 (fits_called _ b')
 

@@ -22,7 +22,7 @@ module _ {D P : Type 0} where
   module _ (choice : P → Choice) (reach : D → Task → ℕ → ℕ → ℕ → Type 0) (mark : ℕ) where
     -- the sets that the decider at the desk reaches, in the case, the sheet and the plan book there
     abbrev pub reach_at : Desk D P → ℕ → Type 0
-    reach_at d x = reach d.decider.now (view d.case.now).task x (length d.sheet.now) (length d.book.now)
+    reach_at d x = reach d.decider.now (view d.case.now).plain.task x (length d.sheet.now) (length d.book.now)
 
     -- what a frame does at the desk
     abbrev pub ServesAt : Frame → Desk D P → Result Reply LineFault → Desk D P → Type 0

@@ -10,9 +10,9 @@ use Rattle.frames.specs.Frames.{kind_of, fault_kind, Reads}
 use Rattle.frames.specs.declared.frame.Frame.{Frame}
 use Rattle.frames.specs.declared.frame.Frame.TheVariants.{Open, Put, Grant, Lapse, Order, Cancel, Withdraw, Carry, Find, DrawAndSign}
 use Rattle.frames.specs.declared.frame.FrameFault.{FrameFault}
-use Rattle.cases.specs.State.{State, opening, opened, putting, put, naming, grant, lapse, ordering, order, cancel, withdrawing, withdraw, carrying, carry}
-use Rattle.cases.specs.Slips.{drawing, given, drawn_and_signed}
-use Rattle.cases.specs.Finding.{finding, Finds}
+use Rattle.cases.specs.Plain.{opening, putting, naming, ordering, withdrawing, carrying, seeking, drawing, given}
+use Rattle.cases.specs.State.{State, opened, filled, granted, lapsed, ordered, cancelled, withdrawn, carried, drawn_and_signed}
+use Rattle.cases.specs.Finding.{Finds}
 use Rattle.casefile.specs.declared.fault.LineFault.{LineFault}
 use Rattle.casefile.specs.declared.fault.LineFault.TheVariants as fault
 use Rattle.casefile.specs.declared.serving.Reply.{Reply}
@@ -38,18 +38,18 @@ Makes a f k r k' s b s' b' = (r ≡ called a) × (k' ≡ after a f k) × (s' ≡
 
 -- what a frame does to the case k, the sheet s and the book b; c is the picker's choice, R the decider's reach, m its mark
 abbrev pub Serves : Choice → (ℕ → Type 0) → ℕ → Frame → State → Result Reply LineFault → State → List Row → List ℕ → List Row → List ℕ → Type 0
-Serves c R m (Open number n standing order) k r k' s b s' b' = Makes (opening k n standing order) (opened number n standing order) k r k' s b s' b'
+Serves c R m (Open number n standing order) k r k' s b s' b' = Makes (opening k.plain n standing order) (opened number n standing order) k r k' s b s' b'
 Serves c R m (Put place needs gives takes) k r k' s b s' b' =
-    Makes (putting k place (step_of needs gives takes)) (put place (step_of needs gives takes)) k r k' s b s' b'
-Serves c R m (Grant x) k r k' s b s' b' = Makes (naming k x) (grant x) k r k' s b s' b'
-Serves c R m (Lapse x) k r k' s b s' b' = Makes (naming k x) (lapse x) k r k' s b s' b'
-Serves c R m (Order x) k r k' s b s' b' = Makes (ordering k x) (order x) k r k' s b s' b'
-Serves c R m (Cancel x) k r k' s b s' b' = Makes (naming k x) (cancel x) k r k' s b s' b'
-Serves c R m (Withdraw i) k r k' s b s' b' = Makes (withdrawing k i) (withdraw i) k r k' s b s' b'
-Serves c R m (Carry i) k r k' s b s' b' = Makes (carrying k i) (carry i) k r k' s b s' b'
+    Makes (putting k.plain place (step_of needs gives takes)) (filled place (step_of needs gives takes)) k r k' s b s' b'
+Serves c R m (Grant x) k r k' s b s' b' = Makes (naming k.plain x) (granted x) k r k' s b s' b'
+Serves c R m (Lapse x) k r k' s b s' b' = Makes (naming k.plain x) (lapsed x) k r k' s b s' b'
+Serves c R m (Order x) k r k' s b s' b' = Makes (ordering k.plain x) (ordered x) k r k' s b s' b'
+Serves c R m (Cancel x) k r k' s b s' b' = Makes (naming k.plain x) (cancelled x) k r k' s b s' b'
+Serves c R m (Withdraw i) k r k' s b s' b' = Makes (withdrawing k.plain i) (withdrawn i) k r k' s b s' b'
+Serves c R m (Carry i) k r k' s b s' b' = Makes (carrying k.plain i) (carried i) k r k' s b s' b'
 Serves c R m Find k r k' s b s' b' =
-    (a : Result (ℕ × ℕ × ℕ) FinderFault) × (r ≡ looked a) × Finds c R m k a k' s b s' b' (finding k (length s) (length b))
-Serves c R m DrawAndSign k r k' s b s' b' = Makes (given (drawing k)) (drawn_and_signed (drawing k)) k r k' s b s' b'
+    (a : Result (ℕ × ℕ × ℕ) FinderFault) × (r ≡ looked a) × Finds c R m k a k' s b s' b' (seeking k.plain (length s) (length b))
+Serves c R m DrawAndSign k r k' s b s' b' = Makes (given (drawing k.plain)) (drawn_and_signed (drawing k.plain)) k r k' s b s' b'
 
 -- a line asks for what its frame does, or holds no frame and is refused with the kind that it shows
 abbrev pub Asks : Choice → (ℕ → Type 0) → ℕ → List ℕ → ℕ → State → Result Reply LineFault → State → List Row → List ℕ → List Row → List ℕ → Type 0

@@ -5,13 +5,13 @@ use Rattle.rules.specs.declared.refusal.Refusal.{Refusal}
 use Rattle.rules.specs.declared.refusal.Refusal.TheVariants.{Unopened}
 use Rattle.rules.specs.Planning.{strike}
 use Rattle.rules.specs.Checking.{Checks}
-use Rattle.cases.specs.State.{State, names}
+use Rattle.cases.specs.Plain.{Plain, names}
 
 -- the check is refused for an unopened case, and for a set with facts that the case has not
-abbrev pub checking : State → ℕ → Result Unit Refusal
-checking k x = cond (k.task.n == 0) (Err Unopened) (names k x (Ok tt))
+abbrev pub checking : Plain → ℕ → Result Unit Refusal
+checking p x = cond (p.task.n == 0) (Err Unopened) (names p x (Ok tt))
 
 -- the check is refused, or says of the places what is true of them with x struck out
-abbrev pub PlanChecked : State → ℕ → List ℕ → Result PlanCheck Refusal → Type 0
-PlanChecked k x l (Ok c) = (checking k x ≡ Ok tt) × Checks (strike k.task x) l c
-PlanChecked k x l (Err e) = checking k x ≡ Err e
+abbrev pub PlanChecked : Plain → ℕ → List ℕ → Result PlanCheck Refusal → Type 0
+PlanChecked p x l (Ok c) = (checking p x ≡ Ok tt) × Checks (strike p.task x) l c
+PlanChecked p x l (Err e) = checking p x ≡ Err e

@@ -8,26 +8,29 @@ use Rattle.deciders.specs.declared.answer.DeciderFault.TheVariants.{BeyondReach}
 use Rattle.waivers.specs.declared.fault.FinderFault.{FinderFault}
 use Rattle.waivers.specs.declared.fault.FinderFault.TheVariants.{Case, SheetSize, BookSize, NoWaiver, Decider, ListFull}
 use Rattle.waivers.specs.Known.{Listed}
+use Rattle.waivers.specs.Searching.{Choice}
 use Rattle.cases.specs.declared.call.Call.{Call}
 use Rattle.cases.specs.declared.call.Call.TheVariants.{Open, Grant, Lapse, Put, Withdraw, Carry, Order, Cancel, Find, Draw, Sign, Tear}
 use Rattle.cases.specs.declared.call.Answer.{Answer}
 use Rattle.cases.specs.declared.call.Answer.TheVariants.{Done, Found, Drawn}
-use Rattle.cases.specs.State.{State, fresh, known_of}
-use Rattle.cases.specs.Slips.{drawing}
+use Rattle.cases.specs.Plain.{Plain, drawing}
+use Rattle.cases.specs.State.{State, fresh}
+use Rattle.cases.specs.Replay.{refused, turned_down, met, after_calls}
 use Rattle.cases.specs.Finding.{zero_row}
-use Rattle.cases.specs.Plain.{plain, refused, turned_down, met, next, replay}
+use Rattle.cases.specs.Making.{Makes}
 
--- What find's end says of the case k that it met and the groups that k' lists then. R says which sets are in reach; b is the book it hands back.
-abbrev pub FoundTruly : (ℕ → Type 0) → ℕ → State → State → List ℕ → Result (ℕ × ℕ × ℕ) FinderFault → Type 0
-FoundTruly R m k k' b (Ok (s, count, n)) =
-    Good k.task s × (count ≡ size s) × Plan (strike k.task s) (take n b) × ((x : ℕ) → Good k.task x → size s ≤ size x)
-FoundTruly R m k k' b (Err (Case e)) = Unit {0}
-FoundTruly R m k k' b (Err SheetSize) = Unit {0}
-FoundTruly R m k k' b (Err BookSize) = Unit {0}
-FoundTruly R m k k' b (Err NoWaiver) = (x : ℕ) → Good k.task x → ⊥
-FoundTruly R m k k' b (Err (Decider (BeyondReach s j))) = (R s → ⊥) × (j ≡ m)
-FoundTruly R m k k' b (Err (ListFull h)) =
-    (length k'.groups ≡ 64) × Listed (known_of k') × ((x : ℕ) → Good k.task x → Hits k'.groups x)
+-- What find's end says of the plain case p that it met. R says which sets are in reach, m is the decider's mark, gs are the groups
+-- that are listed then, and b is the book that is handed back.
+abbrev pub FoundTruly : (ℕ → Type 0) → ℕ → Plain → List ℕ → List ℕ → Result (ℕ × ℕ × ℕ) FinderFault → Type 0
+FoundTruly R m p gs b (Ok (s, count, n)) =
+    Good p.task s × (count ≡ size s) × (n ≤ length b) × Plan (strike p.task s) (take n b) × ((x : ℕ) → Good p.task x → size s ≤ size x)
+FoundTruly R m p gs b (Err (Case e)) = Unit {0}
+FoundTruly R m p gs b (Err SheetSize) = Unit {0}
+FoundTruly R m p gs b (Err BookSize) = Unit {0}
+FoundTruly R m p gs b (Err NoWaiver) = (x : ℕ) → Good p.task x → ⊥
+FoundTruly R m p gs b (Err (Decider (BeyondReach s j))) = (R s → ⊥) × (j ≡ m)
+FoundTruly R m p gs b (Err (ListFull h)) =
+    (length gs ≡ 64) × Listed (record { task = p.task; groups = gs }) × ((x : ℕ) → Good p.task x → Hits gs x)
 
 -- past the plan, and everywhere where there is none, the book has 255
 abbrev pub Shown : Result (ℕ × ℕ × ℕ) FinderFault → List ℕ → Type 0
@@ -46,51 +49,55 @@ Plainly (Found r s b) = ⊥
 Plainly (Drawn r) = ⊥
 
 -- find answers truly, on the sheet s and the book b
-abbrev pub Looks : (Task → ℕ → ℕ → ℕ → Type 0) → ℕ → State → List Row → List ℕ → Answer → State → Type 0
-Looks R m k s b (Done r) k' = ⊥
-Looks R m k s b (Found r s' b') k' =
-    FoundTruly (λ x. R k.task x (length s) (length b)) m k k' (vec_items b') r
+abbrev pub Looks : (Task → ℕ → ℕ → ℕ → Type 0) → ℕ → Plain → List Row → List ℕ → Answer → List ℕ → Type 0
+Looks R m p s b (Done r) gs = ⊥
+Looks R m p s b (Found r s' b') gs =
+    FoundTruly (λ x. R p.task x (length s) (length b)) m p gs (vec_items b') r
     × Left (turned_down r) r s b (vec_items s') (vec_items b')
-Looks R m k s b (Drawn r) k' = ⊥
+Looks R m p s b (Drawn r) gs = ⊥
 
 -- draw gives the case's number and its finding
-abbrev pub Draws : State → Answer → Type 0
-Draws k (Done r) = ⊥
-Draws k (Found r s b) = ⊥
-Draws k (Drawn r) = r ≡ drawing k
+abbrev pub Draws : Plain → Answer → Type 0
+Draws p (Done r) = ⊥
+Draws p (Found r s b) = ⊥
+Draws p (Drawn r) = r ≡ drawing p
 
 -- a signed slip leaves a case that has a plan
-abbrev pub Signs : State → Answer → Type 0
-Signs k' (Done (Ok u)) = Solvable k'.task 0
-Signs k' (Done (Err e)) = Unit {0}
-Signs k' (Found r s b) = ⊥
-Signs k' (Drawn r) = ⊥
+abbrev pub Signs : Answer → Plain → Type 0
+Signs (Done (Ok u)) p' = Solvable p'.task 0
+Signs (Done (Err e)) p' = Unit {0}
+Signs (Found r s b) p' = ⊥
+Signs (Drawn r) p' = ⊥
 
--- what a call promises of the case k that it met and the case k' that it leaves
-abbrev pub Promised : (Task → ℕ → ℕ → ℕ → Type 0) → ℕ → State → Call → Answer → State → Type 0
-Promised R m k (Open number n s o) a k' = Plainly a
-Promised R m k (Grant s) a k' = Plainly a
-Promised R m k (Lapse s) a k' = Plainly a
-Promised R m k (Put i t) a k' = Plainly a
-Promised R m k (Withdraw i) a k' = Plainly a
-Promised R m k (Carry i) a k' = Plainly a
-Promised R m k (Order s) a k' = Plainly a
-Promised R m k (Cancel s) a k' = Plainly a
-Promised R m k (Find s b) a k' = Looks R m k (vec_items s) (vec_items b) a k'
-Promised R m k Draw a k' = Draws k a
-Promised R m k (Sign number s) a k' = Signs k' a
-Promised R m k (Tear number s) a k' = Plainly a
+-- what a call promises by its answer a: of the plain case p that it met, the plain case p' that it leaves, and the groups gs that are listed then
+abbrev pub Promised : (Task → ℕ → ℕ → ℕ → Type 0) → ℕ → Plain → Call → Answer → Plain → List ℕ → Type 0
+Promised R m p (Open number n s o) a p' gs = Plainly a
+Promised R m p (Grant s) a p' gs = Plainly a
+Promised R m p (Lapse s) a p' gs = Plainly a
+Promised R m p (Put i t) a p' gs = Plainly a
+Promised R m p (Withdraw i) a p' gs = Plainly a
+Promised R m p (Carry i) a p' gs = Plainly a
+Promised R m p (Order s) a p' gs = Plainly a
+Promised R m p (Cancel s) a p' gs = Plainly a
+Promised R m p (Find s b) a p' gs = Looks R m p (vec_items s) (vec_items b) a gs
+Promised R m p Draw a p' gs = Draws p a
+Promised R m p (Sign number s) a p' gs = Signs a p'
+Promised R m p (Tear number s) a p' gs = Plainly a
 
--- One call: the plain case follows its rule, the refusal is the plain case's, and the call keeps its promise.
-pub record Keeps (R : Task → ℕ → ℕ → ℕ → Type 0) (m : ℕ) (k : State) (x : Call) (a : Answer) (k' : State) : Type 0 where
-  pub state : plain k' ≡ next (plain k) x a
-  pub refusal : met a ≡ refused (plain k) x
-  pub promise : Promised R m k x a k'
+-- One call x and its answer a, on the program's case k, which is k' then. The plain case was p before it and is p' after it: the
+-- program's case holds its state, refuses as it does, and what is promised of it holds. And the call did what its own contract says.
+pub record Keeps (c : Choice) (R : Task → ℕ → ℕ → ℕ → Type 0) (m : ℕ) (p p' : Plain) (k : State) (x : Call) (a : Answer) (k' : State) : Type 0 where
+  pub state : k'.plain ≡ p'
+  pub refusal : met a ≡ refused p x
+  pub promise : Promised R m p x a p' k'.groups
+  pub call : Makes c R m k x a k'
 
--- the calls with their answers, first to last, lead from one case to another, each call keeping the law
-pub data Runs (R : Task → ℕ → ℕ → ℕ → Type 0) (m : ℕ) : State → List (Call × Answer) → State → Type 0 where
-  start : {k : State} → Runs R m k [] k
-  then : {k n : State} {es : List (Call × Answer)} (x : Call) (a : Answer) (k' : State) → Keeps R m k x a k' → Runs R m k' es n → Runs R m k ((x, a) ∷ es) n
+-- The calls with their answers, first to last, lead from a fresh case to the program's case k'. The plain case is what the calls so far
+-- make of a fresh one.
+pub data Runs (c : Choice) (R : Task → ℕ → ℕ → ℕ → Type 0) (m : ℕ) : List (Call × Answer) → State → Type 0 where
+  none : Runs c R m [] fresh
+  more : {es : List (Call × Answer)} {k : State} → Runs c R m es k → (x : Call) (a : Answer) (k' : State)
+      → Keeps c R m (after_calls es) (after_calls (es ++ (x, a) ∷ [])) k x a k' → Runs c R m (es ++ (x, a) ∷ []) k'
 
 -- each call beside its answer
 abbrev pub paired : List Call → List Answer → List (Call × Answer)
@@ -98,8 +105,8 @@ paired [] ws = []
 paired (x ∷ xs) [] = []
 paired (x ∷ xs) (a ∷ ws) = (x, a) ∷ paired xs ws
 
--- The law: every call was answered, each kept its promise on the case as it then stood, and the case holds the replay of the list.
-pub record Law (R : Task → ℕ → ℕ → ℕ → Type 0) (m : ℕ) (calls : List Call) (answers : List Answer) (last : State) : Type 0 where
+-- The law: every call was answered, after each the case held the plain case's state and what it promised, and so it does at the end.
+pub record Law (c : Choice) (R : Task → ℕ → ℕ → ℕ → Type 0) (m : ℕ) (calls : List Call) (answers : List Answer) (last : State) : Type 0 where
   pub answered : length answers ≡ length calls
-  pub runs : Runs R m fresh (paired calls answers) last
-  pub replayed : plain last ≡ replay (plain fresh) (paired calls answers)
+  pub runs : Runs c R m (paired calls answers) last
+  pub replayed : last.plain ≡ after_calls (paired calls answers)

@@ -1,16 +1,14 @@
--- The plain case: all that a case holds except the group list, and the rules by which calls change it.
-use Rattle.std.specs.Prelude.{ℕ, Bool, true, List, [], ◌∷◌, length, Some, None, Ok, Err, vec_items, Option, Result}
+-- The plain case: all that a case holds except its group list. When it refuses a call, and what an accepted call makes of it.
+use Rattle.std.specs.Prelude.{ℕ, Bool, false, cond, ◌&&◌, ◌||◌, Some, None, Ok, Err, Option, Result, ◌==◌, nat_lt}
+use Rattle.rules.specs.declared.step.Step.{Step}
 use Rattle.rules.specs.declared.refusal.Refusal.{Refusal}
+use Rattle.rules.specs.declared.refusal.Refusal.TheVariants.{Unopened, AlreadyOpen, SlipOut, UnknownFact, NoFinding, WrongSlip}
+use Rattle.rules.specs.Sets.{◌∪◌, inside, below}
 use Rattle.rules.specs.Planning.{Task}
+use Rattle.rules.specs.Places.{put_refusal, clear_refusal}
 use Rattle.waivers.specs.declared.fault.FinderFault.{FinderFault}
-use Rattle.waivers.specs.declared.fault.FinderFault.TheVariants.{Case, SheetSize, BookSize, NoWaiver, Decider, ListFull}
-use Rattle.cases.specs.declared.call.Call.{Call}
-use Rattle.cases.specs.declared.call.Call.TheVariants.{Open, Grant, Lapse, Put, Withdraw, Carry, Order, Cancel, Find, Draw, Sign, Tear}
-use Rattle.cases.specs.declared.call.Answer.{Answer}
-use Rattle.cases.specs.declared.call.Answer.TheVariants.{Done, Found, Drawn}
-use Rattle.cases.specs.State.{State, opening, opened, naming, putting, ordering, withdrawing, carrying, put, grant, lapse, order, cancel, withdraw, carry}
-use Rattle.cases.specs.Slips.{drawing, given, with_slip, deciding, signed, torn}
-use Rattle.cases.specs.Finding.{finding}
+use Rattle.waivers.specs.declared.fault.FinderFault.TheVariants.{Case, SheetSize, BookSize}
+use Rattle.waivers.specs.Known.{nothing, open_refusal, order_refusal, carry_refusal, opens, waives}
 
 -- the number of the case, its task, its finding, and whether a slip is out
 pub record Plain : Type 0 where
@@ -19,90 +17,97 @@ pub record Plain : Type 0 where
   pub finding : Option ℕ
   pub slip_out : Bool
 
--- a case without its group list
-abbrev pub plain : State → Plain
-plain k = record { number = k.number; task = k.task; finding = k.finding; slip_out = k.slip_out }
+-- an unopened case: the numbers are 0, sets and places are empty, nothing was found, and no slip is out
+abbrev pub unopened : Plain
+unopened = record { number = 0; task = nothing.task; finding = None; slip_out = false }
 
--- a plain case with an empty group list
-abbrev pub listless : Plain → State
-listless p = record { number = p.number; task = p.task; groups = []; finding = p.finding; slip_out = p.slip_out }
+-- ---- refusals, by rising number
 
--- ---- which calls are refused
+-- an unopened case, or one of which a slip is out, refuses; otherwise the next check counts
+abbrev pub usable : Plain → Result Unit Refusal → Result Unit Refusal
+usable p r = cond (p.task.n == 0) (Err Unopened) (cond p.slip_out (Err SlipOut) r)
 
--- a refusal of the case's layer, among those of find
-abbrev pub of_case : Result Unit Refusal → Result Unit FinderFault
-of_case (Ok u) = Ok tt
-of_case (Err e) = Err (Case e)
+-- a set may name only facts of the case; then the next check counts
+abbrev pub names : Plain → ℕ → Result Unit Refusal → Result Unit Refusal
+names p s r = cond (inside s (below p.task.n)) r (Err UnknownFact)
 
--- why a plain case refuses a call, or not
-abbrev pub refused : Plain → Call → Result Unit FinderFault
-refused p (Open number n s o) = of_case (opening (listless p) n s o)
-refused p (Grant s) = of_case (naming (listless p) s)
-refused p (Lapse s) = of_case (naming (listless p) s)
-refused p (Put i t) = of_case (putting (listless p) i t)
-refused p (Withdraw i) = of_case (withdrawing (listless p) i)
-refused p (Carry i) = of_case (carrying (listless p) i)
-refused p (Order s) = of_case (ordering (listless p) s)
-refused p (Cancel s) = of_case (naming (listless p) s)
-refused p (Find sheet book) = finding (listless p) (length (vec_items sheet)) (length (vec_items book))
-refused p Draw = of_case (given (drawing (listless p)))
-refused p (Sign number s) = of_case (deciding (listless p) number s)
-refused p (Tear number s) = of_case (deciding (listless p) number s)
+-- open: a case is opened once, for 1 to 32 facts that its standing and its order do not exceed
+abbrev pub opening : Plain → ℕ → ℕ → ℕ → Result Unit Refusal
+opening p n s o = cond (p.task.n == 0) (open_refusal n s o) (Err AlreadyOpen)
 
--- which refusal find's answer is; none, beyond reach and list full are no refusals of the call but ends of a search
-abbrev pub turned_down : Result (ℕ × ℕ × ℕ) FinderFault → Result Unit FinderFault
-turned_down (Ok t) = Ok tt
-turned_down (Err (Case e)) = Err (Case e)
-turned_down (Err SheetSize) = Err SheetSize
-turned_down (Err BookSize) = Err BookSize
-turned_down (Err NoWaiver) = Ok tt
-turned_down (Err (Decider e)) = Ok tt
-turned_down (Err (ListFull s)) = Ok tt
+-- put: a step has only facts of the case, gives nothing that it takes, and goes into an empty place
+abbrev pub putting : Plain → ℕ → Step → Result Unit Refusal
+putting p i t = usable p (names p (t.needs ∪ t.gives ∪ t.takes) (put_refusal p.task.steps i t))
 
--- the refusal that an answer is, or none
-abbrev pub met : Answer → Result Unit FinderFault
-met (Done r) = of_case r
-met (Found r sheet book) = turned_down r
-met (Drawn r) = of_case (given r)
+-- grant, lapse and cancel: the set names only facts of the case
+abbrev pub naming : Plain → ℕ → Result Unit Refusal
+naming p s = usable p (names p s (Ok tt))
 
--- ---- what calls do
+-- order: the set names only facts of the case, and none that is waived
+abbrev pub ordering : Plain → ℕ → Result Unit Refusal
+ordering p s = usable p (names p s (order_refusal p.task s))
 
--- what find's answer leaves as the finding: its set, or nothing
-abbrev pub set_found : Result (ℕ × ℕ × ℕ) FinderFault → Option ℕ
-set_found (Ok (s, count, n)) = Some s
-set_found (Err e) = None
+-- withdraw: the place is one of 64 and holds a step
+abbrev pub withdrawing : Plain → ℕ → Result Unit Refusal
+withdrawing p i = usable p (clear_refusal p.task.steps i)
 
--- the finding that an answer leaves
-abbrev pub kept : Answer → Option ℕ
-kept (Done r) = None
-kept (Found r sheet book) = set_found r
-kept (Drawn r) = None
+-- carry: the place is one of 64 and holds a step of which no need is missing
+abbrev pub carrying : Plain → ℕ → Result Unit Refusal
+carrying p i = usable p (carry_refusal p.task i)
 
--- what an accepted call makes of the plain case; find is fed its answer
-abbrev pub rule : Plain → Call → Answer → Plain
-rule p (Open number n s o) a = plain (opened number n s o (listless p))
-rule p (Grant s) a = plain (grant s (listless p))
-rule p (Lapse s) a = plain (lapse s (listless p))
-rule p (Put i t) a = plain (put i t (listless p))
-rule p (Withdraw i) a = plain (withdraw i (listless p))
-rule p (Carry i) a = plain (carry i (listless p))
-rule p (Order s) a = plain (order s (listless p))
-rule p (Cancel s) a = plain (cancel s (listless p))
-rule p (Find sheet book) a = record { number = p.number; task = p.task; finding = kept a; slip_out = p.slip_out }
-rule p Draw a = plain (with_slip true (listless p))
-rule p (Sign number s) a = plain (signed s (listless p))
-rule p (Tear number s) a = plain (torn (listless p))
+-- find: the sheet has 1 to 4,096 rows, and the book at least as many places, and at most 4,096
+abbrev pub seeking : Plain → ℕ → ℕ → Result Unit FinderFault
+seeking p rows places =
+    cond (p.task.n == 0) (Err (Case Unopened))
+    (cond p.slip_out (Err (Case SlipOut))
+    (cond (rows == 0 || nat_lt 4096 rows) (Err SheetSize)
+    (cond (nat_lt places rows || nat_lt 4096 places) (Err BookSize) (Ok tt))))
 
--- a refused call changes nothing
-abbrev pub unless : Result Unit FinderFault → Plain → Plain → Plain
-unless (Ok u) p q = q
-unless (Err e) p q = p
+-- what a finding gives a slip for: a set that is not empty
+abbrev pub worth_drawing : Option ℕ → ℕ → Result (ℕ × ℕ) Refusal
+worth_drawing None number = Err NoFinding
+worth_drawing (Some s) number = cond (s == 0) (Err NoFinding) (Ok (number, s))
 
--- the plain case after a call
-abbrev pub next : Plain → Call → Answer → Plain
-next p x a = unless (refused p x) p (rule p x a)
+-- draw is refused, or gives the case's number and the finding
+abbrev pub drawing : Plain → Result (ℕ × ℕ) Refusal
+drawing p = cond (p.task.n == 0) (Err Unopened) (cond p.slip_out (Err SlipOut) (worth_drawing p.finding p.number))
 
--- the plain case after a list of calls with their answers
-abbrev pub replay : Plain → List (Call × Answer) → Plain
-replay p [] = p
-replay p ((x, a) ∷ es) = replay (next p x a) es
+-- whether a slip is drawn, without what it says
+abbrev pub given : Result (ℕ × ℕ) Refusal → Result Unit Refusal
+given (Ok d) = Ok tt
+given (Err e) = Err e
+
+-- the finding is the set s
+abbrev pub finds : Option ℕ → ℕ → Bool
+finds None s = false
+finds (Some t) s = t == s
+
+-- a slip with this number and set is the one that is out
+abbrev pub is_out : Plain → ℕ → ℕ → Bool
+is_out p number s = p.slip_out && (p.number == number && finds p.finding s)
+
+-- sign and tear are refused for an unopened case, and for any slip but the one that is out
+abbrev pub deciding : Plain → ℕ → ℕ → Result Unit Refusal
+deciding p number s = cond (p.task.n == 0) (Err Unopened) (cond (is_out p number s) (Ok tt) (Err WrongSlip))
+
+-- ---- what accepted calls make of the plain case
+
+-- the calls before find change the task, each in its own way, and forget the finding
+abbrev pub changed : (Task → Task) → Plain → Plain
+changed f p = record { number = p.number; task = f p.task; finding = None; slip_out = p.slip_out }
+
+-- open also sets the number
+abbrev pub opened_as : ℕ → ℕ → ℕ → ℕ → Plain → Plain
+opened_as c n s o p = record { number = c; task = opens n s o p.task; finding = None; slip_out = p.slip_out }
+
+-- find leaves its set as the finding, or none
+abbrev pub found_as : Option ℕ → Plain → Plain
+found_as o p = record { number = p.number; task = p.task; finding = o; slip_out = p.slip_out }
+
+-- draw and tear change only whether the slip is out
+abbrev pub with_slip : Bool → Plain → Plain
+with_slip b p = record { number = p.number; task = p.task; finding = p.finding; slip_out = b }
+
+-- sign waives the set and forgets the finding, and the slip is in
+abbrev pub signed_for : ℕ → Plain → Plain
+signed_for s p = with_slip false (changed (waives s) p)

@@ -2,8 +2,8 @@
 
 ghost use Rattle.std.specs.Prelude.{◌≡◌};
 ghost use Rattle.rules.specs.Refusals.{after};
-ghost use Rattle.cases.specs.State.{view, naming, putting, ordering, withdrawing, carrying};
-ghost use Rattle.cases.specs.State.{put as filled, grant as granted, lapse as lapsed, order as ordered, cancel as cancelled, withdraw as withdrawn, carry as carried};
+ghost use Rattle.cases.specs.Plain.{naming, putting, ordering, withdrawing, carrying};
+ghost use Rattle.cases.specs.State.{view, filled, granted, lapsed, ordered, cancelled, withdrawn, carried};
 
 use crate::case::Case;
 use rules::{Facts, Refusal, Step};
@@ -12,7 +12,7 @@ use rules::{Facts, Refusal, Step};
 impl Case {
     /// Puts a step into an empty place.
     pub fn put(&mut self, place: u8, step: Step) -> Result<(), Refusal>
-        ensures answer { result ≡ putting (view self.old) place step }
+        ensures answer { result ≡ putting (view self.old).plain place step }
         ensures after { view self.new ≡ after result (filled place step) (view self.old) }
     {
         self.check_usable()?;
@@ -24,7 +24,7 @@ impl Case {
 
     /// Adds facts to the standing.
     pub fn grant(&mut self, set: Facts) -> Result<(), Refusal>
-        ensures answer { result ≡ naming (view self.old) set }
+        ensures answer { result ≡ naming (view self.old).plain set }
         ensures after { view self.new ≡ after result (granted set) (view self.old) }
     {
         self.check_set(set)?;
@@ -35,7 +35,7 @@ impl Case {
 
     /// Removes facts from the standing.
     pub fn lapse(&mut self, set: Facts) -> Result<(), Refusal>
-        ensures answer { result ≡ naming (view self.old) set }
+        ensures answer { result ≡ naming (view self.old).plain set }
         ensures after { view self.new ≡ after result (lapsed set) (view self.old) }
     {
         self.check_set(set)?;
@@ -46,7 +46,7 @@ impl Case {
 
     /// Adds facts to the order.
     pub fn order(&mut self, set: Facts) -> Result<(), Refusal>
-        ensures answer { result ≡ ordering (view self.old) set }
+        ensures answer { result ≡ ordering (view self.old).plain set }
         ensures after { view self.new ≡ after result (ordered set) (view self.old) }
     {
         self.check_set(set)?;
@@ -57,7 +57,7 @@ impl Case {
 
     /// Removes facts from the order.
     pub fn cancel(&mut self, set: Facts) -> Result<(), Refusal>
-        ensures answer { result ≡ naming (view self.old) set }
+        ensures answer { result ≡ naming (view self.old).plain set }
         ensures after { view self.new ≡ after result (cancelled set) (view self.old) }
     {
         self.check_set(set)?;
@@ -68,7 +68,7 @@ impl Case {
 
     /// Empties a place that holds a step.
     pub fn withdraw(&mut self, place: u8) -> Result<(), Refusal>
-        ensures answer { result ≡ withdrawing (view self.old) place }
+        ensures answer { result ≡ withdrawing (view self.old).plain place }
         ensures after { view self.new ≡ after result (withdrawn place) (view self.old) }
     {
         self.check_usable()?;
@@ -79,7 +79,7 @@ impl Case {
 
     /// Does a step for good, if its needs outside the waived facts stand.
     pub fn carry(&mut self, place: u8) -> Result<(), Refusal>
-        ensures answer { result ≡ carrying (view self.old) place }
+        ensures answer { result ≡ carrying (view self.old).plain place }
         ensures after { view self.new ≡ after result (carried place) (view self.old) }
     {
         self.check_usable()?;

@@ -3,7 +3,8 @@
 ghost use Rattle.std.specs.Prelude.{◌≡◌, cond, Ok, Err, IfOk, ◌==◌};
 ghost use Rattle.rules.specs.declared.refusal.Refusal.TheVariants.{Unopened};
 ghost use Rattle.rules.specs.Refusals.{after};
-ghost use Rattle.cases.specs.State.{view, fresh, usable, names, naming, opening, opened};
+ghost use Rattle.cases.specs.Plain.{usable, names, naming, opening};
+ghost use Rattle.cases.specs.State.{view, fresh, opened};
 ghost use Rattle.cases.specs.Checks.{PlanChecked};
 
 use rules::{Facts, PlanCheck, Refusal, facts_below, is_subset};
@@ -38,14 +39,14 @@ impl Case {
 
     /// The number of facts; 0 where the case is unopened.
     pub(crate) fn facts(&self) -> u8
-        ensures { result ≡ (view self.now).task.n }
+        ensures { result ≡ (view self.now).plain.task.n }
     {
         self.known.problem().n
     }
 
     /// Refuses an unopened case.
     pub(crate) fn check_open(&self) -> Result<(), Refusal>
-        ensures { result ≡ cond ((view self.now).task.n == 0) (Err Unopened) (Ok tt) }
+        ensures { result ≡ cond ((view self.now).plain.task.n == 0) (Err Unopened) (Ok tt) }
     {
         if self.facts() == 0 {
             return Err(Refusal::Unopened);
@@ -55,7 +56,7 @@ impl Case {
 
     /// Refuses an unopened case, and one of which a slip is out.
     pub(crate) fn check_usable(&self) -> Result<(), Refusal>
-        ensures { result ≡ usable (view self.now) (Ok tt) }
+        ensures { result ≡ usable (view self.now).plain (Ok tt) }
     {
         self.check_open()?;
         if self.slip_out {
@@ -66,7 +67,7 @@ impl Case {
 
     /// Refuses a set that names a fact at or above the number of facts.
     pub(crate) fn check_names(&self, set: Facts) -> Result<(), Refusal>
-        ensures { result ≡ names (view self.now) set (Ok tt) }
+        ensures { result ≡ names (view self.now).plain set (Ok tt) }
     {
         if is_subset(set, facts_below(self.facts())) {
             Ok(())
@@ -77,7 +78,7 @@ impl Case {
 
     /// Refuses an unopened case, one of which a slip is out, and a set that names a fact at or above the number of facts.
     pub(crate) fn check_set(&self, set: Facts) -> Result<(), Refusal>
-        ensures { result ≡ naming (view self.now) set }
+        ensures { result ≡ naming (view self.now).plain set }
     {
         self.check_usable()?;
         self.check_names(set)
@@ -85,7 +86,7 @@ impl Case {
 
     /// Opens the case: sets its number, the number of facts, the standing and the order.
     pub fn open(&mut self, number: u32, n: u8, standing: Facts, order: Facts) -> Result<(), Refusal>
-        ensures answer { result ≡ opening (view self.old) n standing order }
+        ensures answer { result ≡ opening (view self.old).plain n standing order }
         ensures after { view self.new ≡ after result (opened number n standing order) (view self.old) }
     {
         if self.facts() != 0 {
@@ -99,7 +100,7 @@ impl Case {
 
     /// Whether the places are a plan of the case with the facts of `strike` struck out, and if not, why. The case stays as it is.
     pub fn check_plan(&mut self, strike: Facts, places: &[u8]) -> Result<PlanCheck, Refusal>
-        ensures says { PlanChecked (view self.old) strike places.now result }
+        ensures says { PlanChecked (view self.old).plain strike places.now result }
         ensures same { view self.new ≡ view self.old }
     {
         self.check_open()?;

@@ -3,8 +3,9 @@
 ghost use Rattle.std.specs.Prelude.{◌≡◌, ℕ, ◌-◌, ◌<◌, ◌≤◌, ◌++◌, length, take, replicate};
 ghost use Rattle.waivers.specs.Known.{Listed};
 ghost use Rattle.waivers.specs.Reaching.{Same};
+ghost use Rattle.cases.specs.Plain.{seeking};
 ghost use Rattle.cases.specs.State.{view, known_of};
-ghost use Rattle.cases.specs.Finding.{finding, zero_row, Finds};
+ghost use Rattle.cases.specs.Finding.{zero_row, Finds};
 
 use crate::case::Case;
 use deciders::{Decider, MAX_PLACES, MAX_ROWS, Row};
@@ -34,7 +35,7 @@ fn wipe_book(book: &mut [u8], from: usize)
 impl Case {
     /// Refuses what find can't work on.
     fn check_find(&self, rows: usize, places: usize) -> Result<(), FinderFault>
-        ensures { result ≡ finding (view self.now) rows places }
+        ensures { result ≡ seeking (view self.now).plain rows places }
     {
         self.check_usable()?;
         if rows == 0 || rows > MAX_ROWS {
@@ -57,9 +58,9 @@ impl Case {
         book: &mut [u8],
     ) -> Result<(Facts, u8, u16), FinderFault>
         ensures finds { Finds (P.choice picker.now)
-            (λ s. D.reach decider.old (view self.old).task s (length sheet.old) (length book.old))
+            (λ s. D.reach decider.old (view self.old).plain.task s (length sheet.old) (length book.old))
             D.signed (view self.old) result (view self.new) sheet.old book.old sheet.new book.new
-            (finding (view self.old) (length sheet.old) (length book.old)) }
+            (seeking (view self.old).plain (length sheet.old) (length book.old)) }
         ensures listed { Listed (known_of (view self.new)) }
         ensures same { Same (D.reach decider.old) (D.reach decider.new) }
     {

@@ -1,9 +1,9 @@
 //! Lists of calls, made one after another on a fresh case.
 
-ghost use Rattle.std.specs.Prelude.{◌≡◌, ℕ, Ok, Err, IfOk, MatchResult};
+ghost use Rattle.std.specs.Prelude.{◌≡◌, ℕ, Ok, Err, MatchResult};
 ghost use Rattle.waivers.specs.Reaching.{Same};
-ghost use Rattle.cases.specs.State.{view};
-ghost use Rattle.cases.specs.Slips.{drawing, drawn};
+ghost use Rattle.cases.specs.Plain.{drawing};
+ghost use Rattle.cases.specs.State.{view, drawn};
 ghost use Rattle.cases.specs.Making.{Makes};
 ghost use Rattle.cases.specs.Law.{Law};
 
@@ -13,12 +13,12 @@ use crate::slip::Slip;
 use deciders::Decider;
 use pickers::Picker;
 use rules::{Facts, Refusal};
-use std::alloc::{AllocError, Global};
+use std::alloc::{AllocFailed, Global};
 
 /// Draws a slip, and says what it says.
 fn draw(case: &mut Case) -> Result<(u32, Facts), Refusal>
-    ensures answer { result ≡ drawing (view case.old) }
-    ensures after { view case.new ≡ drawn (drawing (view case.old)) (view case.old) }
+    ensures answer { result ≡ drawing (view case.old).plain }
+    ensures after { view case.new ≡ drawn (drawing (view case.old).plain) (view case.old) }
 {
     let Slip { number, set } = case.draw()?;
     Ok((number, set))
@@ -72,21 +72,26 @@ fn make<D: Decider, P: Picker>(case: &mut Case, decider: &mut D, picker: &P, cal
 
 /// Makes the calls in turn on a fresh case, refused or not, and hands back the answers, with the buffers of every find, and the case.
 ///
-/// The room for the answers is reserved before the first call.
+/// All memory is reserved before the first call. Where there is none, no call is made, and the list is handed back.
 pub fn run<D: Decider, P: Picker>(
     heap: Global,
     decider: &mut D,
     picker: &P,
     calls: Vec<Call>,
-) -> Result<(Vec<Answer>, Case), AllocError>
-    ensures { IfOk result (λ v. Law (D.reach decider.old) D.signed calls.items v.0.items (view v.1)) }
+) -> Result<(Vec<Answer>, Case), AllocFailed<Vec<Call>>>
+    ensures law { MatchResult result
+        (λ v. Law (P.choice picker.now) (D.reach decider.old) D.signed calls.items v.0.items (view v.1))
+        (λ e. (e.value ≡ calls) × (decider.new ≡ decider.old)) }
+    ensures same { Same (D.reach decider.old) (D.reach decider.new) }
 {
-    let mut case = Case::new(heap)?;
-    let mut answers = Vec::with_capacity(heap, calls.len())?;
+    let (Ok(mut case), Ok(mut answers)) = (Case::new(heap), Vec::with_capacity(heap, calls.len()))
+    else {
+        return Err(AllocFailed { value: calls });
+    };
     // Kept: a loop, since the law is its invariant.
     for call in calls {
         let answer = make(&mut case, decider, picker, call);
-        answers.push(answer)?;
+        answers.push_reserved(answer);
     }
     Ok((answers, case))
 }

@@ -2,8 +2,9 @@
 
 ghost use Rattle.std.specs.Prelude.{◌≡◌, Ok, Err, MatchResult};
 ghost use Rattle.rules.specs.Refusals.{after};
-ghost use Rattle.cases.specs.State.{view};
-ghost use Rattle.cases.specs.Slips.{drawing, drawn, slip_data, given, deciding_on, signed, torn, drawn_and_signed, HandsBack};
+ghost use Rattle.cases.specs.Plain.{drawing, given};
+ghost use Rattle.cases.specs.State.{view, drawn, signed, torn, drawn_and_signed};
+ghost use Rattle.cases.specs.Slips.{slip_data, deciding_on, HandsBack};
 
 use crate::case::Case;
 use crate::slip::Slip;
@@ -12,8 +13,8 @@ use rules::{Facts, Refusal};
 impl Case {
     /// Draws a slip for the finding. While it is out, the case refuses every other call.
     pub fn draw(&mut self) -> Result<Slip, Refusal>
-        ensures answer { slip_data result ≡ drawing (view self.old) }
-        ensures after { view self.new ≡ drawn (drawing (view self.old)) (view self.old) }
+        ensures answer { slip_data result ≡ drawing (view self.old).plain }
+        ensures after { view self.new ≡ drawn (drawing (view self.old).plain) (view self.old) }
     {
         self.check_usable()?;
         let finding = self.finding.filter(|set| *set != 0);
@@ -27,7 +28,7 @@ impl Case {
 
     /// Refuses a slip that is not the one that is out.
     fn check_slip(&self, slip: &Slip) -> Result<(), Refusal>
-        ensures { result ≡ deciding_on (view self.now) slip.now }
+        ensures { result ≡ deciding_on (view self.now).plain slip.now }
     {
         self.check_open()?;
         if self.slip_out && self.number == slip.number && self.finding == Some(slip.set) {
@@ -39,7 +40,7 @@ impl Case {
 
     /// Uses up the slip that is out, and says its set. Any other slip is handed back.
     fn use_up(&self, slip: Slip) -> Result<Facts, (Slip, Refusal)>
-        ensures { MatchResult result (λ s. (s ≡ slip.«set») × (deciding_on (view self.now) slip ≡ Ok tt)) (λ e. (e.0 ≡ slip) × (deciding_on (view self.now) slip ≡ Err e.1)) }
+        ensures { MatchResult result (λ s. (s ≡ slip.«set») × (deciding_on (view self.now).plain slip ≡ Ok tt)) (λ e. (e.0 ≡ slip) × (deciding_on (view self.now).plain slip ≡ Err e.1)) }
     {
         match self.check_slip(&slip) {
             Ok(()) => {
@@ -61,8 +62,8 @@ impl Case {
 
     /// Draws a slip for the finding and signs it at once.
     pub fn draw_and_sign(&mut self) -> Result<(), Refusal>
-        ensures answer { result ≡ given (drawing (view self.old)) }
-        ensures after { view self.new ≡ drawn_and_signed (drawing (view self.old)) (view self.old) }
+        ensures answer { result ≡ given (drawing (view self.old).plain) }
+        ensures after { view self.new ≡ drawn_and_signed (drawing (view self.old).plain) (view self.old) }
     {
         let Slip { number: _, set } = self.draw()?;
         self.waive(set);
@@ -71,8 +72,8 @@ impl Case {
 
     /// Signs a slip: its set is waived, the finding is forgotten and the group list emptied. A refusal hands the slip back.
     pub fn sign(&mut self, slip: Slip) -> Result<(), (Slip, Refusal)>
-        ensures answer { HandsBack slip (deciding_on (view self.old) slip) result }
-        ensures after { view self.new ≡ after (deciding_on (view self.old) slip) (signed slip.«set») (view self.old) }
+        ensures answer { HandsBack slip (deciding_on (view self.old).plain slip) result }
+        ensures after { view self.new ≡ after (deciding_on (view self.old).plain slip) (signed slip.«set») (view self.old) }
     {
         let set = self.use_up(slip)?;
         self.waive(set);
@@ -81,8 +82,8 @@ impl Case {
 
     /// Tears a slip: only that it is in changes. A refusal hands the slip back.
     pub fn tear(&mut self, slip: Slip) -> Result<(), (Slip, Refusal)>
-        ensures answer { HandsBack slip (deciding_on (view self.old) slip) result }
-        ensures after { view self.new ≡ after (deciding_on (view self.old) slip) torn (view self.old) }
+        ensures answer { HandsBack slip (deciding_on (view self.old).plain slip) result }
+        ensures after { view self.new ≡ after (deciding_on (view self.old).plain slip) torn (view self.old) }
     {
         self.use_up(slip)?;
         self.slip_out = false;

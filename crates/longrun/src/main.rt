@@ -1,4 +1,4 @@
-//! Makes a long list of calls, accepted and refused, on a fresh case, by two deciders and two pickers, and prints what each call answers.
+//! Makes long lists of calls, accepted and refused, on fresh cases, by two deciders and two pickers, and prints what the calls answer.
 
 #![tactic(auto)]
 
@@ -11,9 +11,16 @@ use waivers::FinderFault;
 mod full;
 mod making;
 mod mixed;
+mod random;
+mod tally;
 
 use full::full_list;
 use mixed::mixed_calls;
+use random::random_calls;
+use tally::Tally;
+
+/// How many lists are made of calls that look random.
+const LISTS: u32 = 40;
 
 /// The call's name.
 fn name(call: &Call) -> &'static str {
@@ -63,6 +70,18 @@ fn tell(rt: &HostRuntime, name: &str, answer: &Answer) -> io::Result<()> {
     }
 }
 
+/// The number of the refusal that an answer is; 0 for none.
+fn refusal_number(answer: &Answer) -> u8 {
+    match answer {
+        Answer::Done(Err(refusal)) | Answer::Drawn(Err(refusal)) => refusal.number(),
+        Answer::Found {
+            result: Err(fault),
+            ..
+        } => fault.number(),
+        _ => 0,
+    }
+}
+
 /// Makes the calls on a fresh case, and prints what each answers.
 fn report<D: Decider, P: Picker>(
     rt: &HostRuntime,
@@ -79,15 +98,65 @@ fn report<D: Decider, P: Picker>(
     Ok(())
 }
 
-fn main(rt: HostRuntime) -> io::Result<()> {
+/// Makes lists of calls that look random, each on a fresh case, and prints how often each call was accepted and refused.
+fn report_random<D: Decider, P: Picker>(
+    rt: &HostRuntime,
+    decider: &mut D,
+    picker: &P,
+) -> io::Result<()> {
     let heap = rt.alloc();
+    let mut tally = Tally::new();
+    for seed in 0..LISTS {
+        let calls = random_calls(heap, seed)?;
+        let names: Vec<&'static str> = calls.iter().map(name).collect(heap)?;
+        let (answers, _case) = run(heap, decider, picker, calls)?;
+        for (name, answer) in names.iter().zip(answers.iter()) {
+            tally.count(name, refusal_number(answer));
+        }
+    }
+    tally.print(rt)
+}
+
+/// Makes all lists with one decider and one picker.
+fn report_all<D: Decider, P: Picker>(
+    rt: &HostRuntime,
+    pair: &str,
+    decider: &mut D,
+    picker: &P,
+) -> io::Result<()> {
+    let heap = rt.alloc();
+    println!(rt; "mixed calls, {pair}")?;
+    report(rt, decider, picker, mixed_calls(heap)?)?;
+    println!(rt; "a full list, {pair}")?;
+    report(rt, decider, picker, full_list(heap)?)?;
+    println!(rt; "random calls, {pair}")?;
+    report_random(rt, decider, picker)
+}
+
+fn main(rt: HostRuntime) -> io::Result<()> {
     let mut screen = Screen { below: Forward };
-    println!(rt; "mixed calls, a screen over forward, the counting picker")?;
-    report(&rt, &mut screen, &CountingPicker, mixed_calls(heap)?)?;
-    println!(rt; "mixed calls, backward, the branching picker")?;
-    report(&rt, &mut Backward, &BranchingPicker, mixed_calls(heap)?)?;
-    println!(rt; "a full list, a screen over forward, the counting picker")?;
-    report(&rt, &mut screen, &CountingPicker, full_list(heap)?)?;
-    println!(rt; "a full list, backward, the branching picker")?;
-    report(&rt, &mut Backward, &BranchingPicker, full_list(heap)?)
+    report_all(
+        &rt,
+        "a screen over forward, the counting picker",
+        &mut screen,
+        &CountingPicker,
+    )?;
+    report_all(
+        &rt,
+        "forward, the branching picker",
+        &mut Forward,
+        &BranchingPicker,
+    )?;
+    report_all(
+        &rt,
+        "backward, the counting picker",
+        &mut Backward,
+        &CountingPicker,
+    )?;
+    report_all(
+        &rt,
+        "backward, the branching picker",
+        &mut Backward,
+        &BranchingPicker,
+    )
 }

@@ -3,7 +3,7 @@
 ghost use Rattle.std.specs.Prelude.{◌≡◌};
 ghost use Rattle.rules.specs.Refusals.{after};
 ghost use Rattle.rules.specs.Places.{clear_refusal};
-ghost use Rattle.waivers.specs.Known.{known, granted, lapsed, cancelled, order_refusal, ordered, withdrawn, carry_refusal, carried, waived_too};
+ghost use Rattle.waivers.specs.Known.{known, anew, keeping, grants, lapses, cancels, order_refusal, ordered, withdraws, carry_refusal, carries, waives};
 
 use crate::known::KnownGroups;
 use crate::lose::lose;
@@ -12,7 +12,7 @@ use rules::{Facts, PLACES, Refusal, difference, is_subset, meets};
 impl KnownGroups {
     /// Adds facts to the standing. That may make a group solvable, so the list is emptied.
     pub fn grant(&mut self, set: Facts)
-        ensures { known self.new ≡ granted set (known self.old) }
+        ensures { known self.new ≡ anew (grants set) (known self.old) }
     {
         self.groups.clear(); // what stands now may make a group solvable
         self.problem.standing.facts |= set;
@@ -20,7 +20,7 @@ impl KnownGroups {
 
     /// Removes facts from the standing. What was blocked stays blocked, so the groups stay.
     pub fn lapse(&mut self, set: Facts)
-        ensures { known self.new ≡ lapsed set (known self.old) }
+        ensures { known self.new ≡ keeping (lapses set) (known self.old) }
     {
         self.problem.standing.facts = difference(self.problem.standing.facts, set);
     }
@@ -40,7 +40,7 @@ impl KnownGroups {
 
     /// Removes facts from the order. That may make a group solvable, so the list is emptied.
     pub fn cancel(&mut self, set: Facts)
-        ensures { known self.new ≡ cancelled set (known self.old) }
+        ensures { known self.new ≡ anew (cancels set) (known self.old) }
     {
         self.groups.clear(); // a smaller order may make a group solvable
         self.problem.order = difference(self.problem.order, set);
@@ -48,7 +48,7 @@ impl KnownGroups {
 
     /// Waives facts for good. They go from every reading of the problem, so the list is emptied.
     pub fn waive(&mut self, set: Facts)
-        ensures { known self.new ≡ waived_too set (known self.old) }
+        ensures { known self.new ≡ anew (waives set) (known self.old) }
     {
         self.groups.clear(); // waived facts are waivable no more, and what was good asks for nothing now
         self.problem.waived |= set;
@@ -57,7 +57,7 @@ impl KnownGroups {
     /// Empties a place. What was blocked stays blocked, so the groups stay.
     pub fn withdraw(&mut self, place: u8) -> Result<(), Refusal>
         ensures answer { result ≡ clear_refusal (known self.old).task.steps place }
-        ensures after { known self.new ≡ after result (withdrawn place) (known self.old) }
+        ensures after { known self.new ≡ after result (keeping (withdraws place)) (known self.old) }
     {
         self.problem.table.clear(place)
     }
@@ -65,7 +65,7 @@ impl KnownGroups {
     /// Does a step for good. What was blocked stays blocked, so the groups stay.
     pub fn carry(&mut self, place: u8) -> Result<(), Refusal>
         ensures answer { result ≡ carry_refusal (known self.old).task place }
-        ensures after { known self.new ≡ after result (carried place) (known self.old) }
+        ensures after { known self.new ≡ after result (keeping (carries place)) (known self.old) }
     {
         // Kept: the test of the place stands here and in `StepTable::clear`, which wants no step; a call for both is longer.
         if place >= PLACES {

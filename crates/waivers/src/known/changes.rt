@@ -5,7 +5,7 @@ ghost use Rattle.rules.specs.Planning.{task, strike as strike_out};
 ghost use Rattle.rules.specs.Checking.{Checks};
 ghost use Rattle.rules.specs.Refusals.{after};
 ghost use Rattle.rules.specs.Places.{put_refusal};
-ghost use Rattle.waivers.specs.Known.{known, nothing, open_refusal, opened, placed, Listed};
+ghost use Rattle.waivers.specs.Known.{known, nothing, open_refusal, opens, puts, anew, Listed};
 
 use crate::known::{KnownGroups, MAX_GROUPS};
 use rules::{
@@ -48,7 +48,7 @@ impl KnownGroups {
     // Kept: three arguments; a struct of them would be made for this one call, and taken apart in it.
     pub fn open(&mut self, n: u8, standing: Facts, order: Facts) -> Result<(), Refusal>
         ensures answer { result ≡ open_refusal n standing order }
-        ensures after { known self.new ≡ after result (opened n standing order) (known self.old) }
+        ensures after { known self.new ≡ after result (anew (opens n standing order)) (known self.old) }
     {
         if n == 0 || n > 32 {
             return Err(Refusal::FactCount);
@@ -66,7 +66,7 @@ impl KnownGroups {
     /// Puts a step into an empty place. A new step may make a group solvable, so the list is emptied.
     pub fn put(&mut self, place: u8, step: Step) -> Result<(), Refusal>
         ensures answer { result ≡ put_refusal (known self.old).task.steps place step }
-        ensures after { known self.new ≡ after result (placed place step) (known self.old) }
+        ensures after { known self.new ≡ after result (anew (puts place step)) (known self.old) }
     {
         self.problem.table.put(place, step)?;
         self.groups.clear(); // the new step may make a group solvable

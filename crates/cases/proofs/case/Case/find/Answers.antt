@@ -10,7 +10,7 @@ returns-in_err-check_find-clause-finds g c =
     let k : State = view c.args.self.now in
     let q = err_from_is_err_and c.from_residual.result c.from_residual.ensures.1 in
     finds_refused (g.P.Picker.choice c.args.picker.now)
-    (λ s. g.D.Decider.reach c.args.decider.now k.task s (length c.args.sheet.now) (length c.args.book.now)) g.D.Decider.signed k
+    (λ s. g.D.Decider.reach c.args.decider.now k.plain.task s (length c.args.sheet.now) (length c.args.book.now)) g.D.Decider.signed k
     c.args.sheet.now c.args.book.now c.from_residual.result c.in_err-check_find.field-0.0 (sym c.in_err-check_find.ensures) (q.1 ∙ ap Err q.2)
 
 pub returns-in_err-check_find-clause-listed : goal.returns-in_err-check_find-clause-listed
