@@ -1,13 +1,12 @@
 -- Closures: one round, the closure as the last of many rounds, and what is outside it.
-use Rattle.std.proofs.Common.{Bool, true, false, not, T, IsTrue, ◌↔◌, ◌≡◌, ℕ, zero, suc, ◌+◌, ◌<◌, ◌≤◌, ◌⊎◌, List, [], ◌∷◌, length, get_or, Some, None, Option, refl, ap, subst, inl, inr, arith}
+use Rattle.std.proofs.Common.{Bool, true, false, not, T, IsTrue, ◌↔◌, ◌≡◌, ℕ, zero, suc, ◌+◌, ◌<◌, ◌≤◌, ◌⊎◌, List, [], ◌∷◌, map, length, get_or, Some, None, Option, refl, sym, ap, ◌∙◌, subst, inl, inr, arith}
 use Rattle.std.proofs.lemmas.Bool.{cases_eq}
 use Rattle.std.proofs.lemmas.Grind.{common_steps}
 use Rattle.rules.specs.declared.step.Step.{Step}
-use Rattle.rules.specs.Sets.{bit, ◌⊆◌, ◌∪◌}
-use Rattle.rules.specs.Planning.{Task, done, Leads}
+use Rattle.rules.specs.Sets.{bit, ◌⊆◌, ◌∪◌, ◌∖◌}
+use Rattle.rules.specs.Planning.{Task, done, Leads, place_without, step_without, gone, strike}
 use Rattle.rules.proofs.Sets.{bits, sub_le, same_facts, inside_dec}
 use Rattle.deciders.specs.Closures.{Under, Closed, Closure, Round}
-use Rattle.deciders.specs.Struck.{actions_of, steps_of}
 use Rattle.deciders.specs.Reaches.{ScreenedOut}
 use Rattle.deciders.specs.Theorems.{ClosureExists, ClosureUnique, ScreenedBlocked}
 
@@ -118,6 +117,38 @@ stays_inside p c u s (i ∷ l) sub (t, is, can, on) =
 pub screened_blocked : ScreenedBlocked
 screened_blocked p (c, x, out) l plan = out (stays_inside p c x.0.1 p.standing l x.0.0 plan)
 
+-- ---- facts struck out
+
+-- what the place i holds without the facts of g
+without_at : (g : ℕ) (ts : List (Option Step)) (i : ℕ) → get_or (map (place_without g) ts) i None ≡ place_without g (get_or ts i None)
+without_at g [] i = refl
+without_at g (o ∷ ts) zero = refl
+without_at g (o ∷ ts) (suc i) = without_at g ts i
+
+-- a step without the facts of g is one of the steps, without them
+struck_from : (g : ℕ) (o : Option Step) (t : Step) → place_without g o ≡ Some t → (u : Step) × (o ≡ Some u) × (step_without g u ≡ t)
+struck_from g None t e = cc
+struck_from g (Some u) t e = (u, refl, cc)
+
+module _ (g : ℕ) (ts : List (Option Step)) where
+  under_without : (c : ℕ) → g ⊆ c → Under ts c → Under (map (place_without g) ts) (c ∖ g)
+  under_without c all under i t e can =
+      let (u, is, same) = struck_from g (get_or ts i None) t (sym (without_at g ts i) ∙ e) in
+      let gives = under i u is (λ f. omega (arith, bits, all f, can f, ap (λ (v : Step). bit v.needs f) same)) in
+      λ f. omega (arith, bits, gives f, ap (λ (v : Step). bit v.gives f) same)
+
+  under_with : (d : ℕ) → Under (map (place_without g) ts) d → Under ts (d ∪ g)
+  under_with d under i u is can =
+      let gives = under i (step_without g u) (without_at g ts i ∙ ap (place_without g) is) (λ f. omega (arith, bits, can f)) in
+      λ f. omega (arith, bits, gives f)
+
+  -- what stands all along may be struck out afterwards
+  closure_without : (s c : ℕ) → Closure ts (s ∪ g) c → Closure (map (place_without g) ts) (s ∖ g) (c ∖ g)
+  closure_without s c ((holds, under), least) = (
+    ((λ f. omega (arith, bits, holds f)), under_without c (λ f. omega (arith, bits, holds f)) under),
+    λ d (start, closed). (let up = least (d ∪ g) ((λ f. omega (arith, bits, start f)), under_with d closed) in λ f. omega (arith, bits, up f)),
+  )
+
 -- the test of the order against a closure
 pub screens_out : (q : Task) (c : ℕ) (b : Bool) → Closure q.steps q.standing c → (T b → q.order ⊆ c) → (q.order ⊆ c → T b) → IsTrue (not b) ↔ ScreenedOut q
 screens_out q c true closure holds fails = (
@@ -126,27 +157,11 @@ screens_out q c true closure holds fails = (
 )
 screens_out q c false closure holds fails = ((λ h. (c, closure, fails)), λ out. refl)
 
--- ---- the actions have the closures that the places have
 
-to_place : (i : ℕ) (ts : List (Option Step)) (j : ℕ) (t : Step) → get_or (steps_of (actions_of i ts)) j None ≡ Some t
-    → (k : ℕ) × (get_or ts k None ≡ Some t)
-to_place i [] j t e = cc
-to_place i (None ∷ ts) j t e = let (k, q) = to_place (i + 1) ts j t e in (suc k, q)
-to_place i (Some u ∷ ts) zero t e = (zero, e)
-to_place i (Some u ∷ ts) (suc j) t e = let (k, q) = to_place (i + 1) ts j t e in (suc k, q)
-
-to_action : (i : ℕ) (ts : List (Option Step)) (k : ℕ) (t : Step) → get_or ts k None ≡ Some t
-    → (j : ℕ) × (get_or (steps_of (actions_of i ts)) j None ≡ Some t)
-to_action i [] k t e = cc
-to_action i (None ∷ ts) zero t e = cc
-to_action i (None ∷ ts) (suc k) t e = to_action (i + 1) ts k t e
-to_action i (Some u ∷ ts) zero t e = (zero, e)
-to_action i (Some u ∷ ts) (suc k) t e = let (j, q) = to_action (i + 1) ts k t e in (suc j, q)
-
-pub closure_places : (ts : List (Option Step)) (s c : ℕ) → Closure (steps_of (actions_of 0 ts)) s c → Closure ts s c
-closure_places ts s c x =
-    let there : (d : ℕ) → Under (steps_of (actions_of 0 ts)) d → Under ts d =
-    λ d u k t e. (let (j, q) = to_action 0 ts k t e in u j t q) in
-    let back : (d : ℕ) → Under ts d → Under (steps_of (actions_of 0 ts)) d =
-    λ d u j t e. (let (k, q) = to_place 0 ts j t e in u k t q) in
-    ((x.0.0, there c x.0.1), λ d h. x.1 d (h.0, back d h.1))
+-- the same, where what is struck out stands all along
+pub struck_screens_out : (p : Task) (x c : ℕ) (b : Bool) → Closure p.steps (p.standing ∪ gone p x) c → (T b → p.order ⊆ c) → (p.order ⊆ c → T b)
+    → IsTrue (not b) ↔ ScreenedOut (strike p x)
+struck_screens_out p x c b closure holds fails =
+    let all = closure.0.0 in
+    screens_out (strike p x) (c ∖ gone p x) b (closure_without (gone p x) p.steps p.standing c closure)
+    (λ t. let sub = holds t in λ f. omega (arith, bits, sub f)) (λ sub. fails (λ f. omega (arith, bits, sub f, all f)))

@@ -6,19 +6,21 @@ ghost use Rattle.deciders.specs.Reaches.{ScreenedOut, ScreenReach};
 ghost use Rattle.std.proofs.Common.{rules};
 
 use crate::answer::{DeciderFault, Verdict};
+use crate::closure::closure;
 use crate::decider::Decider;
 use crate::limits::sizes_fit;
 use crate::row::Row;
-use crate::struck::StruckOut;
 use rules::{Facts, Problem, is_subset};
 
 /// Whether the order cannot stand even if no step takes anything, with the facts of `strike` struck out.
+///
+/// No step is struck out for it: what is gone stands all along, so that no step waits for it.
 fn is_screened_out(problem: &Problem, strike: Facts) -> bool
     ensures { IsTrue result ↔ ScreenedOut (strike_out (task problem.now) strike) }
 {
-    let mut struck = StruckOut::default();
-    struck.fill(problem, strike);
-    !is_subset(struck.order, struck.closure())
+    let gone = strike | problem.waived;
+    let all = closure(problem.table.places(), problem.standing.facts | gone);
+    !is_subset(problem.order, all)
 }
 
 /// Blocks what is blocked even if no step takes anything, and asks the decider below it for the rest.
