@@ -1,5 +1,5 @@
 -- Closures: one round, the closure as the last of many rounds, and what is outside it.
-use Rattle.std.proofs.Common.{Bool, true, false, not, T, IsTrue, ◌↔◌, ◌≡◌, ℕ, zero, suc, ◌+◌, ◌<◌, ◌≤◌, ◌⊎◌, List, [], ◌∷◌, map, length, get_or, Some, None, Option, refl, sym, ap, ◌∙◌, subst, inl, inr, arith}
+use Rattle.std.proofs.Common.{Bool, true, false, not, IsTrue, ◌↔◌, ◌≡◌, ℕ, zero, suc, ◌+◌, ◌<◌, ◌≤◌, ◌⊎◌, List, [], ◌∷◌, map, length, get_or, Some, None, Option, refl, sym, ap, ◌∙◌, subst, inl, inr, arith}
 use Rattle.std.proofs.lemmas.Bool.{cases_eq}
 use Rattle.std.proofs.lemmas.Grind.{common_steps}
 use Rattle.rules.specs.declared.step.Step.{Step}
@@ -106,7 +106,13 @@ closure_exists ts s =
 pub closure_unique : ClosureUnique
 closure_unique ts s c d x y = same_facts d c (x.1 d y.0) (y.1 c x.0)
 
--- ---- what is outside the closure
+-- ---- what is inside the closure, and what is outside
+
+pub inside_closure : (ts : List (Option Step)) (s o c : ℕ) → Closing ts s c → o ⊆ c → (d : ℕ) × Closure ts s d × (o ⊆ d)
+inside_closure ts s o c x sub = let (d, closure) = closure_exists ts s in (d, closure, let low = x.least d closure.0 in λ f. omega (arith, sub f, low f))
+
+pub outside_closure : (ts : List (Option Step)) (s o c : ℕ) → Closure ts s c → (o ⊆ c → ⊥) → (d : ℕ) × Closure ts s d × (o ⊆ d) → ⊥
+outside_closure ts s o c closure out (d, other, sub) = out (subst (λ u. o ⊆ u) (closure_unique ts s d c other closure) sub)
 
 stays_inside : (p : Task) (c : ℕ) → Under p.steps c → (s : ℕ) (l : List ℕ) → s ⊆ c → Leads p s l → p.order ⊆ c
 stays_inside p c u s [] sub o = λ f. omega (arith, sub f, o f)
@@ -149,19 +155,23 @@ module _ (g : ℕ) (ts : List (Option Step)) where
     λ d (start, closed). (let up = least (d ∪ g) ((λ f. omega (arith, bits, start f)), under_with d closed) in λ f. omega (arith, bits, up f)),
   )
 
--- the test of the order against a closure
-pub screens_out : (q : Task) (c : ℕ) (b : Bool) → Closure q.steps q.standing c → (T b → q.order ⊆ c) → (q.order ⊆ c → T b) → IsTrue (not b) ↔ ScreenedOut q
-screens_out q c true closure holds fails = (
-  (λ h. cc),
-  λ (d, other, out). absurd (out (subst (λ u. q.order ⊆ u) (closure_unique q.steps q.standing c d closure other) (holds tt))),
-)
-screens_out q c false closure holds fails = ((λ h. (c, closure, fails)), λ out. refl)
-
-
--- the same, where what is struck out stands all along
-pub struck_screens_out : (p : Task) (x c : ℕ) (b : Bool) → Closure p.steps (p.standing ∪ gone p x) c → (T b → p.order ⊆ c) → (p.order ⊆ c → T b)
+-- what is struck out stands all along: the order is inside that closure, or the screen blocks it
+pub struck_screens_out : (p : Task) (x : ℕ) (b : Bool) → IsTrue b ↔ ((c : ℕ) × Closure p.steps (p.standing ∪ gone p x) c × (p.order ⊆ c))
     → IsTrue (not b) ↔ ScreenedOut (strike p x)
-struck_screens_out p x c b closure holds fails =
-    let all = closure.0.0 in
-    screens_out (strike p x) (c ∖ gone p x) b (closure_without (gone p x) p.steps p.standing c closure)
-    (λ t. let sub = holds t in λ f. omega (arith, bits, sub f)) (λ sub. fails (λ f. omega (arith, bits, sub f, all f)))
+struck_screens_out p x true test =
+    let (c, closure, sub) = test.0 refl in
+    let q : Task = strike p x in
+    let struck = closure_without (gone p x) p.steps p.standing c closure in (
+      (λ h. cc),
+      λ (d, other, out). absurd (outside_closure q.steps q.standing q.order d other out (c ∖ gone p x, struck, λ f. omega (arith, bits, sub f))),
+    )
+struck_screens_out p x false test =
+    let g : ℕ = gone p x in
+    let (c, closure) = closure_exists p.steps (p.standing ∪ g) in (
+      (λ h. (
+        c ∖ g,
+        closure_without g p.steps p.standing c closure,
+        λ sub. (let q : false ≡ true = test.1 (c, closure, λ f. omega (arith, bits, sub f, closure.0.0 f)) in cc),
+      )),
+      λ out. refl,
+    )

@@ -6,11 +6,11 @@ ghost use Rattle.deciders.specs.Reaches.{ScreenedOut, ScreenReach};
 ghost use Rattle.std.proofs.Common.{rules};
 
 use crate::answer::{DeciderFault, Verdict};
-use crate::closure::closure;
+use crate::closure::closure_has;
 use crate::decider::Decider;
 use crate::limits::sizes_fit;
 use crate::row::Row;
-use rules::{Facts, Problem, is_subset};
+use rules::{Facts, Problem};
 
 /// Whether the order cannot stand even if no step takes anything, with the facts of `strike` struck out.
 ///
@@ -19,8 +19,8 @@ fn is_screened_out(problem: &Problem, strike: Facts) -> bool
     ensures { IsTrue result ↔ ScreenedOut (strike_out (task problem.now) strike) }
 {
     let gone = strike | problem.waived;
-    let all = closure(problem.table.places(), problem.standing.facts | gone);
-    !is_subset(problem.order, all)
+    let all = problem.standing.facts | gone;
+    !closure_has(problem.table.places(), all, problem.order)
 }
 
 /// Blocks what is blocked even if no step takes anything, and asks the decider below it for the rest.

@@ -4,5 +4,4 @@ use Rattle.deciders.proofs.screen.is_screened_out.Goals as goal
 
 pub returns : goal.returns
 returns c =
-    struck_screens_out (task c.args.problem.now) c.args.strike c.closure-all.result c.is_subset.result (rw c.places.ensures.same at c.closure-all.ensures)
-    c.is_subset.ensures.holds c.is_subset.ensures.fails
+    struck_screens_out (task c.args.problem.now) c.args.strike c.closure_has.result (rw c.places.ensures.same at c.closure_has.ensures)
