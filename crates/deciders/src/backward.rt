@@ -60,7 +60,10 @@ impl Decider for Backward {
         sheet: &mut [Row],
         book: &mut [u8],
     ) -> Result<Verdict, DeciderFault> {
-        match self.search.find_way::<Backward>(problem, strike, sheet, book) {
+        match self
+            .search
+            .find_way::<Backward>(problem, strike, sheet, book)
+        {
             Ok(None) => Ok(Verdict::Blocked),
             // the way up leads from a set that stands to the order
             Ok(Some(length)) => Ok(Verdict::Solvable(length as u16)),

@@ -61,7 +61,10 @@ impl Decider for Forward {
         book: &mut [u8],
     ) -> Result<Verdict, DeciderFault> {
         // Kept: the match stands here and in `Backward`, since a clause of a generic function can't name a MARK.
-        match self.search.find_way::<Forward>(problem, strike, sheet, book) {
+        match self
+            .search
+            .find_way::<Forward>(problem, strike, sheet, book)
+        {
             Ok(None) => Ok(Verdict::Blocked),
             Ok(Some(length)) => {
                 book[..length].reverse();

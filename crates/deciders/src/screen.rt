@@ -24,7 +24,7 @@ fn is_screened_out(problem: &Problem, strike: Facts) -> bool
 }
 
 /// Blocks what is blocked even if no step takes anything, and asks the decider below it for the rest.
-#[derive(Drop)]
+#[derive(Default, Drop)]
 pub struct Screen<D> {
     pub below: D,
 }

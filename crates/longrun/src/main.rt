@@ -81,13 +81,14 @@ fn report<D: Decider, P: Picker>(
 
 fn main(rt: HostRuntime) -> io::Result<()> {
     let heap = rt.alloc();
-    let mut screen = Screen { below: Forward };
+    let mut screen = Screen::<Forward>::default();
+    let mut backward = Backward::default();
     println!(rt; "mixed calls, a screen over forward, the counting picker")?;
     report(&rt, &mut screen, &CountingPicker, mixed_calls(heap)?)?;
     println!(rt; "mixed calls, backward, the branching picker")?;
-    report(&rt, &mut Backward, &BranchingPicker, mixed_calls(heap)?)?;
+    report(&rt, &mut backward, &BranchingPicker, mixed_calls(heap)?)?;
     println!(rt; "a full list, a screen over forward, the counting picker")?;
     report(&rt, &mut screen, &CountingPicker, full_list(heap)?)?;
     println!(rt; "a full list, backward, the branching picker")?;
-    report(&rt, &mut Backward, &BranchingPicker, full_list(heap)?)
+    report(&rt, &mut backward, &BranchingPicker, full_list(heap)?)
 }
