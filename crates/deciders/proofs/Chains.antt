@@ -1,5 +1,5 @@
 -- The index: an empty one, one more entry, and following a chain.
-use Rattle.std.proofs.Common.{◌≡◌, ℕ, zero, suc, ◌+◌, ◌<◌, ◌≤◌, T, true, false, List, [], ◌∷◌, ◌++◌, length, get_or, set, replicate, Some, None, Option, refl, sym, ap, ◌∙◌, subst, inl, inr, arith}
+use Rattle.std.proofs.Common.{◌≡◌, ℕ, zero, suc, ◌+◌, ◌<◌, ◌≤◌, T, true, false, List, [], ◌∷◌, ◌++◌, length, get_or, set, replicate, Some, None, refl, sym, ap, ◌∙◌, subst, inl, inr, arith}
 use Rattle.std.proofs.lemmas.Bool.{cases_eq, false_from_ne_true}
 use Rattle.std.proofs.lemmas.Grind.{common_steps}
 use Rattle.rules.specs.Listing.{listed}
@@ -67,42 +67,43 @@ pub record Looking (l : List ℕ) (s link : ℕ) : Type 0 where
   pub alike : (i : ℕ) → link ≡ i + 1 → hash_of (get_or l i 0) ≡ hash_of s
   pub left : (j : ℕ) → j < length l → get_or l j 0 ≡ s → j < link
 
--- the link to this row, or to none
-abbrev pub link_to : Option ℕ → ℕ
-link_to None = 0
-link_to (Some i) = i + 1
+-- no entry, or the one below the link
+no_link : (k : ℕ) → None ≡ linked k → k ≡ 0
+no_link zero e = refl
+no_link (suc i) e = cc
 
-link_to_linked : (k : ℕ) → link_to (linked k) ≡ k
-link_to_linked zero = refl
-link_to_linked (suc i) = omega arith
+link_of : (k i : ℕ) → Some i ≡ linked k → k ≡ i + 1
+link_of zero i e = cc
+link_of (suc j) i e = let q : i ≡ j = cc in omega arith
 
 -- the same, over the rows that the code reads
-module _ (sheet : List Row) (n s : ℕ) (fits : n ≤ length sheet) where
-  module _ (o : Option ℕ) (k : Looking (entries sheet n) s (link_to o)) where
-    pub missing : o ≡ None → false ≡ listed s (entries sheet n)
-    missing e = sym (false_from_ne_true (listed s (entries sheet n)) (λ t.
-        let (i, h, q) = listed→ s (entries sheet n) (subst T (sym t) tt) in omega (arith, k.left i h q, ap link_to e)))
+module _ (sheet : List Row) (n s : ℕ) (fits : n ≤ length sheet) (k : ℕ) (x : Looking (entries sheet n) s k) where
+  pub missing : None ≡ linked k → false ≡ listed s (entries sheet n)
+  missing e = sym (false_from_ne_true (listed s (entries sheet n)) (λ t.
+      let (i, h, q) = listed→ s (entries sheet n) (subst T (sym t) tt) in absurd (omega (arith, x.left i h q, no_link k e))))
 
-    module _ (i : ℕ) (is : o ≡ Some i) where
-      pub in_count : i < n
-      in_count = omega (arith, k.low, ap link_to is, entries_length sheet n fits)
+  module _ (i : ℕ) (is : Some i ≡ linked k) where
+    pub in_count : i < n
+    in_count = omega (arith, x.low, link_of k i is, entries_length sheet n fits)
 
-      pub look_on : (start : ℕ) (heads links : List ℕ) → Indexed start heads links (entries sheet n) → ((row sheet i).set ≡ s → ⊥) → (q : Option ℕ)
-          → q ≡ linked (link start (get_or links i 0)) → Looking (entries sheet n) s (link_to q)
-      look_on start heads links x isnt q e =
-          let l : List ℕ = entries sheet n in
-          let fit : i < length l = omega (arith, in_count, entries_length sheet n fits) in
-          let at : link_to o ≡ i + 1 = ap link_to is in
-          let not_here : get_or l i 0 ≡ s → ⊥ = λ same. isnt (sym (entries_at sheet n i fits in_count) ∙ same) in
-          subst (Looking l s) (sym (ap link_to e ∙ link_to_linked (link start (get_or links i 0)))) (record {
-            low = omega (arith, x.falls i fit);
-            alike = λ j h. x.alike_next i j fit h ∙ k.alike i at;
-            left = λ j h same. elim (cases_eq j i) [
-              | inl here ↦ absurd (not_here (ap (λ (v : ℕ). get_or l v 0) (sym here) ∙ same))
-              | inr apart ↦ x.rest i j (omega (arith, k.left j h same)) fit (ap hash_of same ∙ sym (k.alike i at))
-            ];
-          })
+    pub look_on : (start : ℕ) (heads links : List ℕ) → Indexed start heads links (entries sheet n) → ((row sheet i).set ≡ s → ⊥)
+        → Looking (entries sheet n) s (link start (get_or links i 0))
+    look_on start heads links y isnt =
+        let l : List ℕ = entries sheet n in
+        let fit : i < length l = omega (arith, in_count, entries_length sheet n fits) in
+        let not_here : get_or l i 0 ≡ s → ⊥ = λ same. isnt (sym (entries_at sheet n i fits in_count) ∙ same) in
+        record {
+          low = omega (arith, y.falls i fit);
+          alike = λ j h. y.alike_next i j fit h ∙ x.alike i (link_of k i is);
+          left = λ j h same. elim (cases_eq j i) [
+            | inl here ↦ absurd (not_here (ap (λ (v : ℕ). get_or l v 0) (sym here) ∙ same))
+            | inr apart ↦ y.rest i j (omega (arith, x.left j h same, link_of k i is)) fit (ap hash_of same ∙ sym (x.alike i (link_of k i is)))
+          ];
+        }
 
-      pub found : (row sheet i).set ≡ s → true ≡ listed s (entries sheet n)
-      found e = sym (T→true (listed s (entries sheet n))
-          (→listed s (entries sheet n) (i, omega (arith, in_count, entries_length sheet n fits), entries_at sheet n i fits in_count ∙ e)))
+    pub falls_on : (start : ℕ) (heads links : List ℕ) → Indexed start heads links (entries sheet n) → link start (get_or links i 0) < k
+    falls_on start heads links y = omega (arith, y.falls i (omega (arith, in_count, entries_length sheet n fits)), link_of k i is)
+
+    pub found : (row sheet i).set ≡ s → true ≡ listed s (entries sheet n)
+    found e = sym (T→true (listed s (entries sheet n))
+        (→listed s (entries sheet n) (i, omega (arith, in_count, entries_length sheet n fits), entries_at sheet n i fits in_count ∙ e)))

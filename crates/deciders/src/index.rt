@@ -11,7 +11,7 @@ const ROWS: u32 = MAX_ROWS as u32;
 
 /// For each hash a chain of the rows whose sets have it, the newest first. The row r has the number `start + r`, and what is
 /// below `start`, as all that an earlier listing has left, stands for no row.
-// Kept: fixed memory with no heap, a rule of the project; options for links are no plainer, since the methods answer options
+// Kept: fixed memory with no heap, a rule of the project; options for links would have to be cleared
 #[derive(Drop)]
 pub struct Index {
     heads: [u32; MAX_ROWS],
@@ -54,27 +54,27 @@ impl Index {
         self.start += ROWS;
     }
 
-    /// The row with this number.
-    fn row(&self, number: u32) -> Option<usize>
+    /// The row with this number, if it is a number of this listing.
+    pub(crate) fn row(&self, number: u32) -> Option<usize>
         ensures { result ≡ linked (link self.now.start number) }
     {
-        let row = number.checked_sub(self.start)?;
-        Some(row as usize)
+        (number as usize).checked_sub(self.start as usize)
     }
 
-    /// The newest row with the hash of this set.
-    pub(crate) fn first(&self, set: Facts) -> Option<usize>
-        ensures { result ≡ linked (link self.now.start (slice_index self.now.heads (hash_of set))) }
+    /// The number of the newest row with the hash of this set.
+    // Kept: a number and not its row, since the loop over a chain is slower where it carries an option from turn to turn.
+    pub(crate) fn first(&self, set: Facts) -> u32
+        ensures { result ≡ slice_index self.now.heads (hash_of set) }
     {
-        self.row(self.heads[hash(set)])
+        self.heads[hash(set)]
     }
 
-    /// The row before this one in its chain.
-    pub(crate) fn next(&self, row: usize) -> Option<usize>
+    /// The number of the row before this one in its chain.
+    pub(crate) fn next(&self, row: usize) -> u32
         requires { row < 4096 }
-        ensures { result ≡ linked (link self.now.start (slice_index self.now.links row)) }
+        ensures { result ≡ slice_index self.now.links row }
     {
-        self.row(self.links[row])
+        self.links[row]
     }
 
     /// Enters a new row with this set.

@@ -54,12 +54,12 @@ impl<'a> Listing<'a> {
     pub(crate) fn has(&self, wanted: Facts) -> bool
         ensures { result ≡ listed wanted (entries self.now.rows.now self.now.count) }
     {
-        let mut next = self.index.first(wanted);
-        while let Some(row) = next {
+        let mut number = self.index.first(wanted);
+        while let Some(row) = self.index.row(number) {
             if self.rows[row].set == wanted {
                 return true;
             }
-            next = self.index.next(row);
+            number = self.index.next(row);
         }
         false
     }
