@@ -40,13 +40,11 @@ impl From<io::Error> for RunFault {
 
 /// Asks each of the shipped deciders, and screens over them.
 fn ask_all(rt: &HostRuntime, query: Query<'_>) -> io::Result<()> {
-    let mut over_forward = Screen { below: Forward };
-    let mut over_backward = Screen { below: Backward };
-    let mut twice = Screen {
-        below: Screen { below: Backward },
-    };
-    ask(rt, "forward", &mut Forward, query)?;
-    ask(rt, "backward", &mut Backward, query)?;
+    let mut over_forward = Screen::<Forward>::default();
+    let mut over_backward = Screen::<Backward>::default();
+    let mut twice = Screen::<Screen<Backward>>::default();
+    ask(rt, "forward", &mut Forward::default(), query)?;
+    ask(rt, "backward", &mut Backward::default(), query)?;
     ask(rt, "screen over forward", &mut over_forward, query)?;
     ask(rt, "screen over backward", &mut over_backward, query)?;
     ask(rt, "screen over a screen", &mut twice, query)
@@ -54,16 +52,13 @@ fn ask_all(rt: &HostRuntime, query: Query<'_>) -> io::Result<()> {
 
 /// Three steps freely give a fact, and a fourth fact is ordered and never given.
 fn run_free(rt: &HostRuntime, problem: &Problem) -> io::Result<()> {
+    let mut forward = Forward::default();
+    let mut over_forward = Screen::<Forward>::default();
     println!(rt; "free facts")?;
-    ask(rt, "forward", &mut Forward, Query::whole(problem, 8, 8))?;
-    ask(rt, "forward", &mut Forward, Query::whole(problem, 7, 8))?;
+    ask(rt, "forward", &mut forward, Query::whole(problem, 8, 8))?;
+    ask(rt, "forward", &mut forward, Query::whole(problem, 7, 8))?;
     let small = Query::whole(problem, 1, 1);
-    ask(
-        rt,
-        "screen over forward",
-        &mut Screen { below: Forward },
-        small,
-    )?;
+    ask(rt, "screen over forward", &mut over_forward, small)?;
     ask_all(rt, Query { strike: 8, ..small })
 }
 
@@ -102,18 +97,15 @@ fn run_large(rt: &HostRuntime, count: &Problem, switched: &Problem) -> io::Resul
     println!(rt; "counter")?;
     ask_all(rt, Query::whole(count, 512, 512))?;
     ask_all(rt, Query::whole(count, 511, 512))?;
+    let mut forward = Forward::default();
     println!(rt; "switches")?;
     let large = Query::whole(switched, 4096, 4096);
-    ask(rt, "forward", &mut Forward, large)?;
-    ask(
-        rt,
-        "forward",
-        &mut Forward,
-        Query {
-            rows: 4095,
-            ..large
-        },
-    )?;
+    let short = Query {
+        rows: 4095,
+        ..large
+    };
+    ask(rt, "forward", &mut forward, large)?;
+    ask(rt, "forward", &mut forward, short)?;
     ask_all(
         rt,
         Query {

@@ -100,8 +100,17 @@ fn ask<D: Decider>(decider: &mut D, query: Query<'_>, solvable: bool, tally: &mu
     }
 }
 
+/// The shipped deciders and screens over them, which keep their memory from problem to problem.
+#[derive(Default, Drop)]
+struct Asked {
+    forward: Forward,
+    backward: Backward,
+    over_forward: Screen<Forward>,
+    over_backward: Screen<Backward>,
+}
+
 /// Asks each decider, with all rows and with few.
-fn ask_all(problem: &Problem, strike: Facts, tally: &mut Tally) {
+fn ask_all(asked: &mut Asked, problem: &Problem, strike: Facts, tally: &mut Tally) {
     let (reached, solvable) = reachable(problem, strike);
     let with_rows = |rows: usize| Query {
         problem,
@@ -111,17 +120,17 @@ fn ask_all(problem: &Problem, strike: Facts, tally: &mut Tally) {
     };
     for rows in [64usize, 5, 2] {
         let query = with_rows(rows);
-        ask(&mut Forward, query, solvable, tally);
-        ask(&mut Backward, query, solvable, tally);
-        ask(&mut Screen { below: Forward }, query, solvable, tally);
-        ask(&mut Screen { below: Backward }, query, solvable, tally);
+        ask(&mut asked.forward, query, solvable, tally);
+        ask(&mut asked.backward, query, solvable, tally);
+        ask(&mut asked.over_forward, query, solvable, tally);
+        ask(&mut asked.over_backward, query, solvable, tally);
     }
     // as many rows as there are standings are enough, and of a blocked problem no fewer
     let before = tally.beyond;
-    ask(&mut Forward, with_rows(reached), solvable, tally);
+    ask(&mut asked.forward, with_rows(reached), solvable, tally);
     tally.check(tally.beyond == before);
     if reached > 1 {
-        ask(&mut Forward, with_rows(reached - 1), solvable, tally);
+        ask(&mut asked.forward, with_rows(reached - 1), solvable, tally);
         tally.check(solvable || tally.beyond != before);
     }
 }
@@ -129,10 +138,11 @@ fn ask_all(problem: &Problem, strike: Facts, tally: &mut Tally) {
 /// Decides random problems in every way, and counts the answers.
 pub fn compare() -> Result<Tally, Refusal> {
     let mut sets = Sets(Generator::new(2_026));
+    let mut asked = Asked::default();
     let mut tally = Tally::default();
     for _ in 0..PROBLEMS {
         let problem = problem(&mut sets)?;
-        ask_all(&problem, sets.few(), &mut tally);
+        ask_all(&mut asked, &problem, sets.few(), &mut tally);
     }
     Ok(tally)
 }

@@ -1,12 +1,12 @@
 -- The index: an empty one, one more entry, and following a chain.
-use Rattle.std.proofs.Common.{◌≡◌, ℕ, ◌+◌, ◌<◌, ◌≤◌, T, true, false, List, [], ◌∷◌, ◌++◌, length, get_or, set, replicate, Some, None, Option, sym, ap, ◌∙◌, subst, arith}
-use Rattle.std.proofs.lemmas.Bool.{false_from_ne_true}
+use Rattle.std.proofs.Common.{◌≡◌, ℕ, zero, suc, ◌+◌, ◌<◌, ◌≤◌, T, true, false, List, [], ◌∷◌, ◌++◌, length, get_or, set, replicate, Some, None, refl, sym, ap, ◌∙◌, subst, inl, inr, arith}
+use Rattle.std.proofs.lemmas.Bool.{cases_eq, false_from_ne_true}
 use Rattle.std.proofs.lemmas.Grind.{common_steps}
 use Rattle.rules.specs.Listing.{listed}
 use Rattle.rules.proofs.Listing.{T→true, listed→, →listed}
 use Rattle.deciders.specs.declared.row.Row.{Row}
 use Rattle.deciders.specs.Rows.{row, entries}
-use Rattle.deciders.specs.Chains.{hash_of, Indexed}
+use Rattle.deciders.specs.Chains.{hash_of, link, linked, Indexed}
 
 -- ---- the sets of the first rows
 
@@ -21,13 +21,23 @@ entries_more sheet n r h = grind (arith, common_steps)
 
 -- ---- an index of nothing
 
-pub index_none : (m : ℕ) → Indexed (replicate m 0) (replicate m 0) []
-index_none m = grind (arith, common_steps)
+pub zeros_below : (m start : ℕ) → 0 < start → (h : ℕ) → get_or (replicate m 0) h 0 < start
+zeros_below m start some h = grind (arith, common_steps)
+
+pub index_none : (start : ℕ) (heads links : List ℕ) → ((h : ℕ) → get_or heads h 0 < start) → Indexed start heads links []
+index_none start heads links low = record {
+  low = λ h. omega (arith, low h);
+  all = λ i h. grind (arith, common_steps);
+  alike = λ h i e. omega (arith, low h);
+  falls = λ i h. grind (arith, common_steps);
+  rest = λ i j k h e. grind (arith, common_steps);
+  alike_next = λ i j h e. grind (arith, common_steps);
+}
 
 -- ---- one more entry
 
-module _ (heads links l : List ℕ) (s : ℕ) (x : Indexed heads links l) (fits : hash_of s < length heads) (more : length l < length links) where
-  index_add : Indexed (set heads (hash_of s) (length l + 1)) (set links (length l) (get_or heads (hash_of s) 0)) (l ++ s ∷ [])
+module _ (start : ℕ) (heads links l : List ℕ) (s : ℕ) (x : Indexed start heads links l) (fits : hash_of s < length heads) (more : length l < length links) where
+  index_add : Indexed start (set heads (hash_of s) (start + length l)) (set links (length l) (get_or heads (hash_of s) 0)) (l ++ s ∷ [])
   index_add = record {
     low = λ h. grind (arith, common_steps, x.low h);
     all = λ i h. grind (arith, common_steps, x.all i);
@@ -41,13 +51,13 @@ hash_small : (s : ℕ) → hash_of s < 4096
 unfolding hash_of
 hash_small s = omega arith
 
-pub index_more : (heads links : List ℕ) (sheet : List Row) (n : ℕ) (r : Row) → Indexed heads links (entries sheet n) → n < length sheet → n < length links → length heads ≡ 4096
-    → Indexed (set heads (hash_of r.set) (n + 1)) (set links n (get_or heads (hash_of r.set) 0)) (entries (set sheet n r) (n + 1))
-index_more heads links sheet n r x fits more k =
+pub index_more : (start : ℕ) (heads links : List ℕ) (sheet : List Row) (n : ℕ) (r : Row) → Indexed start heads links (entries sheet n) → n < length sheet → n < length links → length heads ≡ 4096
+    → Indexed start (set heads (hash_of r.set) (start + n)) (set links n (get_or heads (hash_of r.set) 0)) (entries (set sheet n r) (n + 1))
+index_more start heads links sheet n r x fits more k =
     let l : List ℕ = entries sheet n in
     let q : length l ≡ n = entries_length sheet n (omega arith) in
-    let i = index_add heads links l r.set x (omega (arith, hash_small r.set)) (omega arith) in
-    let P : ℕ → List ℕ → Type 0 = λ m b. Indexed (set heads (hash_of r.set) (m + 1)) (set links m (get_or heads (hash_of r.set) 0)) b in
+    let i = index_add start heads links l r.set x (omega (arith, hash_small r.set)) (omega arith) in
+    let P : ℕ → List ℕ → Type 0 = λ m b. Indexed start (set heads (hash_of r.set) (start + m)) (set links m (get_or heads (hash_of r.set) 0)) b in
     subst (P n) (sym (entries_more sheet n r fits)) (subst (λ m. P m (l ++ r.set ∷ [])) q i)
 
 -- ---- a lookup: link is how far the chain has been followed
@@ -57,22 +67,43 @@ pub record Looking (l : List ℕ) (s link : ℕ) : Type 0 where
   pub alike : (i : ℕ) → link ≡ i + 1 → hash_of (get_or l i 0) ≡ hash_of s
   pub left : (j : ℕ) → j < length l → get_or l j 0 ≡ s → j < link
 
--- the link to this row, or to none
-abbrev pub link_to : Option ℕ → ℕ
-link_to None = 0
-link_to (Some i) = i + 1
+-- no entry, or the one below the link
+no_link : (k : ℕ) → None ≡ linked k → k ≡ 0
+no_link zero e = refl
+no_link (suc i) e = cc
+
+link_of : (k i : ℕ) → Some i ≡ linked k → k ≡ i + 1
+link_of zero i e = cc
+link_of (suc j) i e = let q : i ≡ j = cc in omega arith
 
 -- the same, over the rows that the code reads
-module _ (heads links : List ℕ) (sheet : List Row) (n s : ℕ) (fits : n ≤ length sheet) (x : Indexed heads links (entries sheet n)) where
-  module _ (o : Option ℕ) (k : Looking (entries sheet n) s (link_to o)) where
-    pub missing : o ≡ None → false ≡ listed s (entries sheet n)
-    missing e = sym (false_from_ne_true (listed s (entries sheet n)) (λ t.
-        let (i, h, q) = listed→ s (entries sheet n) (subst T (sym t) tt) in omega (arith, k.left i h q, ap link_to e)))
+module _ (sheet : List Row) (n s : ℕ) (fits : n ≤ length sheet) (k : ℕ) (x : Looking (entries sheet n) s k) where
+  pub missing : None ≡ linked k → false ≡ listed s (entries sheet n)
+  missing e = sym (false_from_ne_true (listed s (entries sheet n)) (λ t.
+      let (i, h, q) = listed→ s (entries sheet n) (subst T (sym t) tt) in absurd (omega (arith, x.left i h q, no_link k e))))
 
-    module _ (i : ℕ) (is : o ≡ Some i) where
-      pub in_count : i < n
-      in_count = omega (arith, k.low, ap link_to is, entries_length sheet n fits)
+  module _ (i : ℕ) (is : Some i ≡ linked k) where
+    pub in_count : i < n
+    in_count = omega (arith, x.low, link_of k i is, entries_length sheet n fits)
 
-      pub found : (row sheet i).set ≡ s → true ≡ listed s (entries sheet n)
-      found e = sym (T→true (listed s (entries sheet n))
-          (→listed s (entries sheet n) (i, omega (arith, in_count, entries_length sheet n fits), entries_at sheet n i fits in_count ∙ e)))
+    pub look_on : (start : ℕ) (heads links : List ℕ) → Indexed start heads links (entries sheet n) → ((row sheet i).set ≡ s → ⊥)
+        → Looking (entries sheet n) s (link start (get_or links i 0))
+    look_on start heads links y isnt =
+        let l : List ℕ = entries sheet n in
+        let fit : i < length l = omega (arith, in_count, entries_length sheet n fits) in
+        let not_here : get_or l i 0 ≡ s → ⊥ = λ same. isnt (sym (entries_at sheet n i fits in_count) ∙ same) in
+        record {
+          low = omega (arith, y.falls i fit);
+          alike = λ j h. y.alike_next i j fit h ∙ x.alike i (link_of k i is);
+          left = λ j h same. elim (cases_eq j i) [
+            | inl here ↦ absurd (not_here (ap (λ (v : ℕ). get_or l v 0) (sym here) ∙ same))
+            | inr apart ↦ y.rest i j (omega (arith, x.left j h same, link_of k i is)) fit (ap hash_of same ∙ sym (x.alike i (link_of k i is)))
+          ];
+        }
+
+    pub falls_on : (start : ℕ) (heads links : List ℕ) → Indexed start heads links (entries sheet n) → link start (get_or links i 0) < k
+    falls_on start heads links y = omega (arith, y.falls i (omega (arith, in_count, entries_length sheet n fits)), link_of k i is)
+
+    pub found : (row sheet i).set ≡ s → true ≡ listed s (entries sheet n)
+    found e = sym (T→true (listed s (entries sheet n))
+        (→listed s (entries sheet n) (i, omega (arith, in_count, entries_length sheet n fits), entries_at sheet n i fits in_count ∙ e)))

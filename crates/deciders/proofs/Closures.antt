@@ -1,13 +1,12 @@
 -- Closures: one round, the closure as the last of many rounds, and what is outside it.
-use Rattle.std.proofs.Common.{Bool, true, false, not, T, IsTrue, ◌↔◌, ◌≡◌, ℕ, zero, suc, ◌+◌, ◌<◌, ◌≤◌, ◌⊎◌, List, [], ◌∷◌, length, get_or, Some, None, Option, refl, ap, subst, inl, inr, arith}
+use Rattle.std.proofs.Common.{Bool, true, false, not, IsTrue, ◌↔◌, ◌≡◌, ℕ, zero, suc, ◌+◌, ◌<◌, ◌≤◌, ◌⊎◌, List, [], ◌∷◌, map, length, get_or, Some, None, Option, refl, sym, ap, ◌∙◌, subst, inl, inr, arith}
 use Rattle.std.proofs.lemmas.Bool.{cases_eq}
 use Rattle.std.proofs.lemmas.Grind.{common_steps}
 use Rattle.rules.specs.declared.step.Step.{Step}
-use Rattle.rules.specs.Sets.{bit, ◌⊆◌, ◌∪◌}
-use Rattle.rules.specs.Planning.{Task, done, Leads}
+use Rattle.rules.specs.Sets.{bit, ◌⊆◌, ◌∪◌, ◌∖◌}
+use Rattle.rules.specs.Planning.{Task, done, Leads, place_without, step_without, gone, strike}
 use Rattle.rules.proofs.Sets.{bits, sub_le, same_facts, inside_dec}
 use Rattle.deciders.specs.Closures.{Under, Closed, Closure, Round}
-use Rattle.deciders.specs.Struck.{actions_of, steps_of}
 use Rattle.deciders.specs.Reaches.{ScreenedOut}
 use Rattle.deciders.specs.Theorems.{ClosureExists, ClosureUnique, ScreenedBlocked}
 
@@ -107,7 +106,13 @@ closure_exists ts s =
 pub closure_unique : ClosureUnique
 closure_unique ts s c d x y = same_facts d c (x.1 d y.0) (y.1 c x.0)
 
--- ---- what is outside the closure
+-- ---- what is inside the closure, and what is outside
+
+pub inside_closure : (ts : List (Option Step)) (s o c : ℕ) → Closing ts s c → o ⊆ c → (d : ℕ) × Closure ts s d × (o ⊆ d)
+inside_closure ts s o c x sub = let (d, closure) = closure_exists ts s in (d, closure, let low = x.least d closure.0 in λ f. omega (arith, sub f, low f))
+
+pub outside_closure : (ts : List (Option Step)) (s o c : ℕ) → Closure ts s c → (o ⊆ c → ⊥) → (d : ℕ) × Closure ts s d × (o ⊆ d) → ⊥
+outside_closure ts s o c closure out (d, other, sub) = out (subst (λ u. o ⊆ u) (closure_unique ts s d c other closure) sub)
 
 stays_inside : (p : Task) (c : ℕ) → Under p.steps c → (s : ℕ) (l : List ℕ) → s ⊆ c → Leads p s l → p.order ⊆ c
 stays_inside p c u s [] sub o = λ f. omega (arith, sub f, o f)
@@ -118,35 +123,55 @@ stays_inside p c u s (i ∷ l) sub (t, is, can, on) =
 pub screened_blocked : ScreenedBlocked
 screened_blocked p (c, x, out) l plan = out (stays_inside p c x.0.1 p.standing l x.0.0 plan)
 
--- the test of the order against a closure
-pub screens_out : (q : Task) (c : ℕ) (b : Bool) → Closure q.steps q.standing c → (T b → q.order ⊆ c) → (q.order ⊆ c → T b) → IsTrue (not b) ↔ ScreenedOut q
-screens_out q c true closure holds fails = (
-  (λ h. cc),
-  λ (d, other, out). absurd (out (subst (λ u. q.order ⊆ u) (closure_unique q.steps q.standing c d closure other) (holds tt))),
-)
-screens_out q c false closure holds fails = ((λ h. (c, closure, fails)), λ out. refl)
+-- ---- facts struck out
 
--- ---- the actions have the closures that the places have
+-- what the place i holds without the facts of g
+without_at : (g : ℕ) (ts : List (Option Step)) (i : ℕ) → get_or (map (place_without g) ts) i None ≡ place_without g (get_or ts i None)
+without_at g [] i = refl
+without_at g (o ∷ ts) zero = refl
+without_at g (o ∷ ts) (suc i) = without_at g ts i
 
-to_place : (i : ℕ) (ts : List (Option Step)) (j : ℕ) (t : Step) → get_or (steps_of (actions_of i ts)) j None ≡ Some t
-    → (k : ℕ) × (get_or ts k None ≡ Some t)
-to_place i [] j t e = cc
-to_place i (None ∷ ts) j t e = let (k, q) = to_place (i + 1) ts j t e in (suc k, q)
-to_place i (Some u ∷ ts) zero t e = (zero, e)
-to_place i (Some u ∷ ts) (suc j) t e = let (k, q) = to_place (i + 1) ts j t e in (suc k, q)
+-- a step without the facts of g is one of the steps, without them
+struck_from : (g : ℕ) (o : Option Step) (t : Step) → place_without g o ≡ Some t → (u : Step) × (o ≡ Some u) × (step_without g u ≡ t)
+struck_from g None t e = cc
+struck_from g (Some u) t e = (u, refl, cc)
 
-to_action : (i : ℕ) (ts : List (Option Step)) (k : ℕ) (t : Step) → get_or ts k None ≡ Some t
-    → (j : ℕ) × (get_or (steps_of (actions_of i ts)) j None ≡ Some t)
-to_action i [] k t e = cc
-to_action i (None ∷ ts) zero t e = cc
-to_action i (None ∷ ts) (suc k) t e = to_action (i + 1) ts k t e
-to_action i (Some u ∷ ts) zero t e = (zero, e)
-to_action i (Some u ∷ ts) (suc k) t e = let (j, q) = to_action (i + 1) ts k t e in (suc j, q)
+module _ (g : ℕ) (ts : List (Option Step)) where
+  under_without : (c : ℕ) → g ⊆ c → Under ts c → Under (map (place_without g) ts) (c ∖ g)
+  under_without c all under i t e can =
+      let (u, is, same) = struck_from g (get_or ts i None) t (sym (without_at g ts i) ∙ e) in
+      let gives = under i u is (λ f. omega (arith, bits, all f, can f, ap (λ (v : Step). bit v.needs f) same)) in
+      λ f. omega (arith, bits, gives f, ap (λ (v : Step). bit v.gives f) same)
 
-pub closure_places : (ts : List (Option Step)) (s c : ℕ) → Closure (steps_of (actions_of 0 ts)) s c → Closure ts s c
-closure_places ts s c x =
-    let there : (d : ℕ) → Under (steps_of (actions_of 0 ts)) d → Under ts d =
-    λ d u k t e. (let (j, q) = to_action 0 ts k t e in u j t q) in
-    let back : (d : ℕ) → Under ts d → Under (steps_of (actions_of 0 ts)) d =
-    λ d u j t e. (let (k, q) = to_place 0 ts j t e in u k t q) in
-    ((x.0.0, there c x.0.1), λ d h. x.1 d (h.0, back d h.1))
+  under_with : (d : ℕ) → Under (map (place_without g) ts) d → Under ts (d ∪ g)
+  under_with d under i u is can =
+      let gives = under i (step_without g u) (without_at g ts i ∙ ap (place_without g) is) (λ f. omega (arith, bits, can f)) in
+      λ f. omega (arith, bits, gives f)
+
+  -- what stands all along may be struck out afterwards
+  closure_without : (s c : ℕ) → Closure ts (s ∪ g) c → Closure (map (place_without g) ts) (s ∖ g) (c ∖ g)
+  closure_without s c ((holds, under), least) = (
+    ((λ f. omega (arith, bits, holds f)), under_without c (λ f. omega (arith, bits, holds f)) under),
+    λ d (start, closed). (let up = least (d ∪ g) ((λ f. omega (arith, bits, start f)), under_with d closed) in λ f. omega (arith, bits, up f)),
+  )
+
+-- what is struck out stands all along: the order is inside that closure, or the screen blocks it
+pub struck_screens_out : (p : Task) (x : ℕ) (b : Bool) → IsTrue b ↔ ((c : ℕ) × Closure p.steps (p.standing ∪ gone p x) c × (p.order ⊆ c))
+    → IsTrue (not b) ↔ ScreenedOut (strike p x)
+struck_screens_out p x true test =
+    let (c, closure, sub) = test.0 refl in
+    let q : Task = strike p x in
+    let struck = closure_without (gone p x) p.steps p.standing c closure in (
+      (λ h. cc),
+      λ (d, other, out). absurd (outside_closure q.steps q.standing q.order d other out (c ∖ gone p x, struck, λ f. omega (arith, bits, sub f))),
+    )
+struck_screens_out p x false test =
+    let g : ℕ = gone p x in
+    let (c, closure) = closure_exists p.steps (p.standing ∪ g) in (
+      (λ h. (
+        c ∖ g,
+        closure_without g p.steps p.standing c closure,
+        λ sub. (let q : false ≡ true = test.1 (c, closure, λ f. omega (arith, bits, sub f, closure.0.0 f)) in cc),
+      )),
+      λ out. refl,
+    )

@@ -8,13 +8,15 @@ use crate::answer::{DeciderFault, Verdict};
 use crate::decider::Decider;
 use crate::listing::Unsettled;
 use crate::row::Row;
-use crate::search::{Direction, find_way};
+use crate::search::{Direction, Search};
 use crate::struck::StruckOut;
 use rules::{Facts, Problem, Step, difference, is_subset, meets};
 
 /// Lists the sets from which the order can be reached.
-#[derive(Clone, Copy)]
-pub struct Backward;
+#[derive(Default, Drop)]
+pub struct Backward {
+    search: Search,
+}
 
 /// Regression: an entry is a set that is wanted, a step that gives a fact of it and takes none leads back to what it needs, and
 /// all of an entry is to stand.
@@ -58,7 +60,10 @@ impl Decider for Backward {
         sheet: &mut [Row],
         book: &mut [u8],
     ) -> Result<Verdict, DeciderFault> {
-        match find_way::<Backward>(problem, strike, sheet, book) {
+        match self
+            .search
+            .find_way::<Backward>(problem, strike, sheet, book)
+        {
             Ok(None) => Ok(Verdict::Blocked),
             // the way up leads from a set that stands to the order
             Ok(Some(length)) => Ok(Verdict::Solvable(length as u16)),

@@ -1,37 +1,38 @@
 //! The closure of a standing under steps, takes ignored.
 
-ghost use Rattle.std.specs.Prelude.{length};
+ghost use Rattle.std.specs.Prelude.{ℕ, ◌↔◌, IsTrue, length};
+ghost use Rattle.rules.specs.Sets.{◌⊆◌};
 ghost use Rattle.deciders.specs.Closures.{Closure, Round};
-ghost use Rattle.deciders.specs.Struck.{steps_of};
 
-use crate::struck::{Action, StruckOut};
-use rules::Facts;
+use rules::{Facts, Step, is_subset};
 
-/// One round: each action in turn whose needs are there adds its gives.
-fn round(actions: &[Action], facts: Facts) -> Facts
-    ensures { Round (steps_of actions.now) (length actions.now) facts result }
+/// One round: each step in turn whose needs are there adds its gives.
+fn round(places: &[Option<Step>], facts: Facts) -> Facts
+    ensures { Round places.now (length places.now) facts result }
 {
     let mut all = facts;
-    for action in actions {
-        if action.step.can_be_done(all) {
-            all |= action.step.gives;
+    for place in places {
+        if let Some(step) = place {
+            if step.can_be_done(all) {
+                all |= step.gives;
+            }
         }
     }
     all
 }
 
-impl StruckOut {
-    /// The closure of what stands under the steps: round after round, until nothing is added.
-    pub(crate) fn closure(&self) -> Facts
-        ensures { Closure (steps_of self.now.actions.items) self.now.standing result }
-    {
-        let mut all = self.standing;
-        loop {
-            let more = round(self.actions.as_slice(), all);
-            if more == all {
-                return all;
-            }
-            all = more;
+/// Whether the facts are in the closure of the standing under the steps at these places: round after round, until they are there
+/// or nothing is added.
+pub(crate) fn closure_has(places: &[Option<Step>], standing: Facts, facts: Facts) -> bool
+    ensures { IsTrue result ↔ ((c : ℕ) × Closure places.now standing c × (facts ⊆ c)) }
+{
+    let mut all = standing;
+    while !is_subset(facts, all) {
+        let more = round(places, all);
+        if more == all {
+            return false;
         }
+        all = more;
     }
+    true
 }

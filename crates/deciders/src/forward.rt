@@ -9,13 +9,15 @@ use crate::answer::{DeciderFault, Verdict};
 use crate::decider::Decider;
 use crate::listing::Unsettled;
 use crate::row::Row;
-use crate::search::{Direction, find_way};
+use crate::search::{Direction, Search};
 use crate::struck::StruckOut;
 use rules::{Facts, Problem, Step, is_subset};
 
 /// Lists the standings that can be reached.
-#[derive(Clone, Copy)]
-pub struct Forward;
+#[derive(Default, Drop)]
+pub struct Forward {
+    search: Search,
+}
 
 /// Progression: an entry is a standing, a step that can be done leads on to its result, and the order is to stand.
 impl Direction for Forward {
@@ -59,7 +61,10 @@ impl Decider for Forward {
         book: &mut [u8],
     ) -> Result<Verdict, DeciderFault> {
         // Kept: the match stands here and in `Backward`, since a clause of a generic function can't name a MARK.
-        match find_way::<Forward>(problem, strike, sheet, book) {
+        match self
+            .search
+            .find_way::<Forward>(problem, strike, sheet, book)
+        {
             Ok(None) => Ok(Verdict::Blocked),
             Ok(Some(length)) => {
                 book[..length].reverse();

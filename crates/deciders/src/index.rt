@@ -1,19 +1,36 @@
 //! An index over the rows of a sheet, so that it costs little to ask whether a set is listed.
 
-ghost use Rattle.std.specs.Prelude.{◌≡◌, ◌+◌, ◌<◌, [], length, slice_index, slice_set};
-ghost use Rattle.deciders.specs.Chains.{hash_of, linked, Indexed};
+ghost use Rattle.std.specs.Prelude.{◌≡◌, ℕ, ◌+◌, ◌^◌, ◌<◌, ◌≤◌, [], length, slice_index, slice_set};
+ghost use Rattle.deciders.specs.Chains.{hash_of, link, linked, Indexed};
 
 use crate::limits::MAX_ROWS;
 use rules::Facts;
 
-/// For each hash a chain of the rows whose sets have it, the newest first. A link is a row's number and 1, or 0 at the end.
-// Kept: fixed memory with no heap, a rule of the project; options for links are no plainer, since the methods answer options
+/// The rows of a sheet are fewer than the numbers of a `u32`.
+const ROWS: u32 = MAX_ROWS as u32;
+
+/// For each hash a chain of the rows whose sets have it, the newest first. The row r has the number `start + r`, and what is
+/// below `start`, as all that an earlier listing has left, stands for no row.
+// Kept: fixed memory with no heap, a rule of the project; options for links would have to be cleared
 #[derive(Drop)]
 pub struct Index {
-    heads: [u16; MAX_ROWS],
-    links: [u16; MAX_ROWS],
+    heads: [u32; MAX_ROWS],
+    links: [u32; MAX_ROWS],
+    start: u32,
     ghost head_count: { length heads ≡ 4096 },
     ghost link_count: { length links ≡ 4096 },
+    ghost room: { start + 4096 ≤ 2 ^ 32 },
+    ghost below: { (h : ℕ) → slice_index heads h < start + 4096 },
+}
+
+impl Default for Index {
+    fn default() -> Index {
+        Index {
+            heads: [0; MAX_ROWS],
+            links: [0; MAX_ROWS],
+            start: 0,
+        }
+    }
 }
 
 /// The top 12 bits of the product with the golden ratio, which spread well.
@@ -26,39 +43,49 @@ fn hash(set: Facts) -> usize
 }
 
 impl Index {
-    /// An index over no rows.
-    pub(crate) fn new() -> Index
-        ensures { Indexed result.heads result.links [] }
+    /// Forgets all rows. Nothing is cleared until no numbers are left, after a million listings.
+    pub(crate) fn clear(&mut self)
+        ensures { Indexed self.new.start self.new.heads self.new.links [] }
     {
-        Index {
-            heads: [0; MAX_ROWS],
-            links: [0; MAX_ROWS],
+        if self.start > u32::MAX - 2 * ROWS {
+            self.heads.fill(0);
+            self.start = 0;
         }
+        self.start += ROWS;
     }
 
-    /// The newest row with the hash of this set.
-    pub(crate) fn first(&self, set: Facts) -> Option<usize>
-        ensures { result ≡ linked (slice_index self.now.heads (hash_of set)) }
+    /// The row with this number, if it is a number of this listing.
+    pub(crate) fn row(&self, number: u32) -> Option<usize>
+        ensures { result ≡ linked (link self.now.start number) }
     {
-        usize::from(self.heads[hash(set)]).checked_sub(1)
+        (number as usize).checked_sub(self.start as usize)
     }
 
-    /// The row before this one in its chain.
-    pub(crate) fn next(&self, row: usize) -> Option<usize>
+    /// The number of the newest row with the hash of this set.
+    // Kept: a number and not its row, since the loop over a chain is slower where it carries an option from turn to turn.
+    pub(crate) fn first(&self, set: Facts) -> u32
+        ensures { result ≡ slice_index self.now.heads (hash_of set) }
+    {
+        self.heads[hash(set)]
+    }
+
+    /// The number of the row before this one in its chain.
+    pub(crate) fn next(&self, row: usize) -> u32
         requires { row < 4096 }
-        ensures { result ≡ linked (slice_index self.now.links row) }
+        ensures { result ≡ slice_index self.now.links row }
     {
-        usize::from(self.links[row]).checked_sub(1)
+        self.links[row]
     }
 
     /// Enters a new row with this set.
     pub(crate) fn enter(&mut self, row: usize, set: Facts)
         requires { row < 4096 }
-        ensures heads { self.new.heads ≡ slice_set self.old.heads (hash_of set) (row + 1) }
+        ensures start { self.new.start ≡ self.old.start }
+        ensures heads { self.new.heads ≡ slice_set self.old.heads (hash_of set) (self.old.start + row) }
         ensures links { self.new.links ≡ slice_set self.old.links row (slice_index self.old.heads (hash_of set)) }
     {
         let head = &mut self.heads[hash(set)];
         self.links[row] = *head;
-        *head = (row + 1) as u16;
+        *head = self.start + row as u32;
     }
 }

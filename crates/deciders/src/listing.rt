@@ -23,17 +23,18 @@ pub struct Listing<'a> {
     index: &'a mut Index,
     ghost fits: { count ≤ length rows.now },
     ghost small: { length rows.now ≤ 4096 },
-    ghost indexed: { Indexed index.now.heads index.now.links (entries rows.now count) } by { Prim.hlevel props },
+    ghost indexed: { Indexed index.now.start index.now.heads index.now.links (entries rows.now count) } by { Prim.hlevel props },
 }
 
 impl<'a> Listing<'a> {
-    /// A listing of no entries on these rows.
+    /// A listing of no entries on these rows. What the index held is forgotten.
     pub(crate) fn new(rows: &'a mut [Row], index: &'a mut Index) -> Listing<'a>
-        requires small { length rows.old ≤ 4096 }
-        requires none { Indexed index.old.heads index.old.links [] }
+        requires { length rows.old ≤ 4096 }
         ensures rows { result.rows.now ≡ rows.old }
+        ensures loan { result.index.ghost_name ≡ index.entry.ghost_name }
         ensures none { result.count ≡ 0 }
     {
+        index.clear();
         Listing {
             rows,
             count: 0,
@@ -53,12 +54,12 @@ impl<'a> Listing<'a> {
     pub(crate) fn has(&self, wanted: Facts) -> bool
         ensures { result ≡ listed wanted (entries self.now.rows.now self.now.count) }
     {
-        let mut next = self.index.first(wanted);
-        while let Some(row) = next {
+        let mut number = self.index.first(wanted);
+        while let Some(row) = self.index.row(number) {
             if self.rows[row].set == wanted {
                 return true;
             }
-            next = self.index.next(row);
+            number = self.index.next(row);
         }
         false
     }
@@ -70,6 +71,7 @@ impl<'a> Listing<'a> {
         ensures count { IfOk result (λ n. self.new.count ≡ n + 1) }
         ensures full { OnErr result (self.old.count ≡ length self.old.rows.now) }
         ensures same { OnErr result (self.new ≡ self.old) }
+        ensures loan { self.new.index.ghost_name ≡ self.old.index.ghost_name }
     {
         let n = self.count;
         if n == self.rows.len() {

@@ -6,23 +6,25 @@ ghost use Rattle.deciders.specs.Reaches.{ScreenedOut, ScreenReach};
 ghost use Rattle.std.proofs.Common.{rules};
 
 use crate::answer::{DeciderFault, Verdict};
+use crate::closure::closure_has;
 use crate::decider::Decider;
 use crate::limits::sizes_fit;
 use crate::row::Row;
-use crate::struck::StruckOut;
-use rules::{Facts, Problem, is_subset};
+use rules::{Facts, Problem};
 
 /// Whether the order cannot stand even if no step takes anything, with the facts of `strike` struck out.
+///
+/// No step is struck out for it: what is gone stands all along, so that no step waits for it.
 fn is_screened_out(problem: &Problem, strike: Facts) -> bool
     ensures { IsTrue result ↔ ScreenedOut (strike_out (task problem.now) strike) }
 {
-    let mut struck = StruckOut::default();
-    struck.fill(problem, strike);
-    !is_subset(struck.order, struck.closure())
+    let gone = strike | problem.waived;
+    let all = problem.standing.facts | gone;
+    !closure_has(problem.table.places(), all, problem.order)
 }
 
 /// Blocks what is blocked even if no step takes anything, and asks the decider below it for the rest.
-#[derive(Drop)]
+#[derive(Default, Drop)]
 pub struct Screen<D> {
     pub below: D,
 }

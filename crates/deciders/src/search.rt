@@ -48,7 +48,8 @@ impl<'a> Listing<'a> {
         requires here { (at < self.old.count) × ((row_of self.old.rows.now at).set ≡ entry) }
         requires sound { Sound (ByAction D.makes struck.now.actions.items) (row_of self.old.rows.now 0).set self.old.rows.now self.old.count }
         requires away { Away (D.wants struck.now) self.old.rows.now self.old.count }
-        ensures { Expands D.makes (D.wants struck.now) struck.now.actions.items (row_of self.old.rows.now 0).set entry (entries self.old.rows.now self.old.count) (length self.old.rows.now) self.new.rows.now self.new.count result }
+        ensures expands { Expands D.makes (D.wants struck.now) struck.now.actions.items (row_of self.old.rows.now 0).set entry (entries self.old.rows.now self.old.count) (length self.old.rows.now) self.new.rows.now self.new.count result }
+        ensures loan { self.new.index.ghost_name ≡ self.old.index.ghost_name }
     {
         for action in struck.actions.as_slice() {
             if let Some(made) = D::successor(&action.step, entry) {
@@ -71,7 +72,8 @@ impl<'a> Listing<'a> {
     fn list<D: Direction>(&mut self, struck: &StruckOut) -> Result<Option<usize>, Unsettled>
         requires none { self.old.count ≡ 0 }
         requires some { 0 < length self.old.rows.now }
-        ensures { Lists D.makes (D.wants struck.now) struck.now.actions.items (D.start_of struck.now) (length self.old.rows.now) self.new.rows.now self.new.count result }
+        ensures lists { Lists D.makes (D.wants struck.now) struck.now.actions.items (D.start_of struck.now) (length self.old.rows.now) self.new.rows.now self.new.count result }
+        ensures loan { self.new.index.ghost_name ≡ self.old.index.ghost_name }
     {
         let start = D::start(struck);
         self.add(Row {
@@ -93,25 +95,33 @@ impl<'a> Listing<'a> {
     }
 }
 
-/// Searches for a way from the start of a direction to an entry that is wanted, with the facts of `strike` struck out. Writes
-/// the places of the way, the last first, to the front of the book, and says how many there are.
-pub(crate) fn find_way<D: Direction>(
-    problem: &Problem,
-    strike: Facts,
-    sheet: &mut [Row],
-    book: &mut [u8],
-) -> Result<Option<usize>, Unsettled>
-    ensures { Finds D.makes (D.wants (struck_out (task problem.now) strike)) (strike_out (task problem.now) strike).steps (D.start_of (struck_out (task problem.now) strike)) (length sheet.old) book.old book.new result }
-{
-    if !sizes_fit(sheet.len(), book.len()) {
-        return Err(Unsettled);
-    }
-    let mut struck = StruckOut::default();
-    struck.fill(problem, strike);
-    let mut index = Index::new();
-    let mut listing = Listing::new(sheet, &mut index);
-    match listing.list::<D>(&struck)? {
-        Some(row) => Ok(Some(listing.climb(row, book))),
-        None => Ok(None),
+/// A search with its memory, which is kept from query to query, so that none has to make it anew.
+#[derive(Default, Drop)]
+pub struct Search {
+    struck: StruckOut,
+    index: Index,
+}
+
+impl Search {
+    /// Searches for a way from the start of a direction to an entry that is wanted, with the facts of `strike` struck out.
+    /// Writes the places of the way, the last first, to the front of the book, and says how many there are.
+    pub(crate) fn find_way<D: Direction>(
+        &mut self,
+        problem: &Problem,
+        strike: Facts,
+        sheet: &mut [Row],
+        book: &mut [u8],
+    ) -> Result<Option<usize>, Unsettled>
+        ensures { Finds D.makes (D.wants (struck_out (task problem.now) strike)) (strike_out (task problem.now) strike).steps (D.start_of (struck_out (task problem.now) strike)) (length sheet.old) book.old book.new result }
+    {
+        if !sizes_fit(sheet.len(), book.len()) {
+            return Err(Unsettled);
+        }
+        self.struck.fill(problem, strike);
+        let mut listing = Listing::new(sheet, &mut self.index);
+        match listing.list::<D>(&self.struck)? {
+            Some(row) => Ok(Some(listing.climb(row, book))),
+            None => Ok(None),
+        }
     }
 }

@@ -24,7 +24,7 @@ pub struct StruckOut {
 
 impl StruckOut {
     /// Becomes the problem without the facts of `strike` and the waived ones.
-    // Kept: filled in its place; a constructor was tried, and moving what it makes took 14 ns a query.
+    // Kept: filled in its place, in the memory of a search; making it anew and moving it took 14 ns a query.
     pub(crate) fn fill(&mut self, problem: &Problem, strike: Facts)
         ensures { self.new ≡ struck_out (task problem.now) strike }
     {

@@ -32,7 +32,7 @@ pub fn serve_input(rt: &HostRuntime) -> anyhow::Result<()> {
     let heap = rt.alloc();
     let text = read_text(heap, rt.stdin())?;
     let mut case = Case::new(heap)?;
-    let mut decider = Screen { below: Forward };
+    let mut decider = Screen::<Forward>::default();
     let mut sheet = vec![in heap; Row::default(); MAX_ROWS]?;
     let mut book = vec![in heap; 0u8; MAX_PLACES]?;
     let mut buffer = vec![in heap; 0u8; MIN_REPORT]?;

@@ -134,29 +134,11 @@ fn report_all<D: Decider, P: Picker>(
 }
 
 fn main(rt: HostRuntime) -> io::Result<()> {
-    let mut screen = Screen { below: Forward };
-    report_all(
-        &rt,
-        "a screen over forward, the counting picker",
-        &mut screen,
-        &CountingPicker,
-    )?;
-    report_all(
-        &rt,
-        "forward, the branching picker",
-        &mut Forward,
-        &BranchingPicker,
-    )?;
-    report_all(
-        &rt,
-        "backward, the counting picker",
-        &mut Backward,
-        &CountingPicker,
-    )?;
-    report_all(
-        &rt,
-        "backward, the branching picker",
-        &mut Backward,
-        &BranchingPicker,
-    )
+    let (counting, branching) = (CountingPicker, BranchingPicker);
+    let mut screen = Screen::<Forward>::default();
+    report_all(&rt, "a screen over forward, the counting picker", &mut screen, &counting)?;
+    report_all(&rt, "forward, the branching picker", &mut Forward::default(), &branching)?;
+    let mut backward = Backward::default();
+    report_all(&rt, "backward, the counting picker", &mut backward, &counting)?;
+    report_all(&rt, "backward, the branching picker", &mut backward, &branching)
 }

@@ -9,6 +9,6 @@ invariant_of-self c =
     record {
       fits = omega (arith, len);
       small = omega (arith, len);
-      indexed = rw (c.enter.ensures.heads, c.enter.ensures.links)
-          (index_more s.index.now.heads s.index.now.links s.rows.now s.count c.args.row s.indexed (omega arith) (omega arith) s.index.now.head_count);
+      indexed = rw (c.enter.ensures.start, c.enter.ensures.heads, c.enter.ensures.links)
+          (index_more s.index.now.start s.index.now.heads s.index.now.links s.rows.now s.count c.args.row s.indexed (omega arith) (omega arith) s.index.now.head_count);
     }

@@ -1,25 +1,25 @@
-use Rattle.std.proofs.Common.{sym, refl, arith}
+use Rattle.std.proofs.Common.{sym, refl, ◌∙◌, arith}
 use Rattle.std.proofs.lemmas.Result.{err_from_is_err_and}
 use Rattle.deciders.proofs.Sheets.{going_none, going_seen, going_full, going_goal, going_more}
 use Rattle.deciders.proofs.listing.Listing.expand.Goals as goal
 use Rattle.deciders.proofs.listing.Listing.expand.Goals.{in-Some+then-not-has+in_ok-row+else-is_wanted, in-Some+else-not-has, in_default}
 
-pub returns-in_err-row : goal.returns-in_err-row
-returns-in_err-row g c =
+pub returns-in_err-row-clause-expands : goal.returns-in_err-row-clause-expands
+returns-in_err-row-clause-expands g c =
     let p = err_from_is_err_and c.from_residual.result c.from_residual.ensures.1 in
     let items = c.as_slice-action-items.ensures.value in
     let made = rw items at c.in-Some.ensures in
     let here = rw items at c.loop-action-test.true in
-    rw (p.1, c.in_err-row.ensures.same) (going_full c.loop-action.invariant here c.in-Some.made (sym made) (sym c.if-not-has.ensures) c.in_err-row.ensures.full p.0)
+    rw (p.1, c.in_err-row.ensures.same) (going_full c.loop-action.invariant.going here c.in-Some.made (sym made) (sym c.if-not-has.ensures) c.in_err-row.ensures.full p.0)
 
-pub returns-then-is_wanted : goal.returns-then-is_wanted
-returns-then-is_wanted g c =
+pub returns-then-is_wanted-clause-expands : goal.returns-then-is_wanted-clause-expands
+returns-then-is_wanted-clause-expands g c =
     let items = c.as_slice-action-items.ensures.value in
     let made = rw items at c.in-Some.ensures in
     let here = rw items at c.loop-action-test.true in
     let n = c.in_ok-row.ensures.number in
     rw (c.in_ok-row.ensures.rows, c.in_ok-row.ensures.count, n.0)
-    (rw items (going_goal c.loop-action.invariant here c.in-Some.made (sym made) (sym c.if-not-has.ensures) _ refl (omega (arith, n)) (c.if-is_wanted.ensures.holds tt)))
+    (rw items (going_goal c.loop-action.invariant.going here c.in-Some.made (sym made) (sym c.if-not-has.ensures) _ refl (omega (arith, n)) (c.if-is_wanted.ensures.holds tt)))
 
 pub loop-action-preserved : goal.loop-action-preserved
 loop-action-preserved g c =
@@ -30,10 +30,12 @@ loop-action-preserved g c =
       | in-Some+then-not-has+in_ok-row+else-is_wanted w ↦
           (let made = rw items at w.in-Some.ensures in
           let n = w.in_ok-row.ensures.number in
-          rw (w.self-is, w.in_ok-row.ensures.rows, w.in_ok-row.ensures.count, n.0)
-          (rw items (going_more x here w.in-Some.made (sym made) (sym w.if-not-has.ensures) _ refl (omega (arith, n)) w.if-is_wanted.ensures.fails)))
+          rw (w.self-is, w.in_ok-row.ensures.rows, w.in_ok-row.ensures.count, n.0) (record {
+            going = rw items (going_more x.going here w.in-Some.made (sym made) (sym w.if-not-has.ensures) _ refl (omega (arith, n)) w.if-is_wanted.ensures.fails);
+            loan = w.in_ok-row.ensures.loan ∙ x.loan;
+          }))
       | in-Some+else-not-has w ↦
           (let made = rw items at w.in-Some.ensures in
-          rw w.self-is (going_seen x here w.in-Some.made (sym made) (sym w.if-not-has.ensures)))
-      | in_default w ↦ (let none = rw items at w.in_default.ensures in rw w.self-is (going_none x here (sym none)))
+          rw w.self-is (record { going = going_seen x.going here w.in-Some.made (sym made) (sym w.if-not-has.ensures); loan = x.loan }))
+      | in_default w ↦ (let none = rw items at w.in_default.ensures in rw w.self-is (record { going = going_none x.going here (sym none); loan = x.loan }))
     ]

@@ -1,4 +1,4 @@
-use Rattle.std.proofs.Common.{length}
+use Rattle.std.proofs.Common.{◌≡◌, length}
 use Rattle.deciders.specs.Rows.{row, entries}
 use Rattle.deciders.proofs.Sheets.{Going}
 use Rattle.deciders.proofs.listing.Listing.expand.Given as goal
@@ -6,5 +6,8 @@ use Rattle.deciders.proofs.listing.Listing.expand.Given as goal
 abbrev pub invariant-loop-action : goal.invariant-loop-action
 invariant-loop-action g l =
     let s = l.initial.self in
-    Going g.D.Direction.makes (g.D.Direction.wants l.struck) l.struck.actions.items (row s.rows.now 0).set l.entry l.at
-    (entries s.rows.now s.count) (length s.rows.now) l.self.rows.now l.self.count l.action-index
+    record {
+      going : Going g.D.Direction.makes (g.D.Direction.wants l.struck) l.struck.actions.items (row s.rows.now 0).set l.entry l.at
+          (entries s.rows.now s.count) (length s.rows.now) l.self.rows.now l.self.count l.action-index;
+      loan : l.self.index.ghost_name ≡ s.index.ghost_name;
+    }

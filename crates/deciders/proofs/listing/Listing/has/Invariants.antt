@@ -1,9 +1,10 @@
 use Rattle.deciders.specs.Rows.{entries}
-use Rattle.deciders.proofs.Chains.{Looking, link_to}
+use Rattle.deciders.specs.Chains.{link}
+use Rattle.deciders.proofs.Chains.{Looking}
 use Rattle.deciders.proofs.listing.Listing.has.Given as goal
 
-abbrev pub invariant-loop-next : goal.invariant-loop-next
-invariant-loop-next l = Looking (entries l.self.rows.now l.self.count) l.wanted (link_to l.next)
+abbrev pub invariant-loop-row : goal.invariant-loop-row
+invariant-loop-row l = Looking (entries l.self.rows.now l.self.count) l.wanted (link l.self.index.now.start l.number)
 
-abbrev pub decreases-loop-next : goal.decreases-loop-next
-decreases-loop-next l = link_to l.next
+abbrev pub decreases-loop-row : goal.decreases-loop-row
+decreases-loop-row l = link l.self.index.now.start l.number
