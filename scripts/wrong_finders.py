@@ -172,7 +172,7 @@ class PicksTheHighest(Case):
 class NoneTooEarly(Case):
     """says none though a good set exists, since a group loses facts that matter"""
 
-    def widened(self, blocked, rows):
+    def widened(self, blocked, rows, noted):
         return self.waivable(), None
 
 

@@ -1,5 +1,6 @@
 pub mod Keep
 pub mod Losing
 pub mod Largest
+pub mod Noted
 pub mod Turns
 pub mod Searches

@@ -3,5 +3,6 @@ pub mod Faults
 pub mod Known
 pub mod Reaching
 pub mod Growing
+pub mod Noting
 pub mod Searching
 pub mod Examples

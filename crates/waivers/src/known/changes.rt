@@ -5,7 +5,7 @@ ghost use Rattle.rules.specs.Planning.{task, strike as strike_out};
 ghost use Rattle.rules.specs.Checking.{Checks};
 ghost use Rattle.rules.specs.Refusals.{after};
 ghost use Rattle.rules.specs.Places.{put_refusal};
-ghost use Rattle.waivers.specs.Known.{known, nothing, open_refusal, opens, puts, anew, Listed};
+ghost use Rattle.waivers.specs.Known.{known, nothing, Reserved, open_refusal, opens, puts, anew, Listed};
 
 use crate::known::{KnownGroups, MAX_GROUPS};
 use rules::{
@@ -14,9 +14,10 @@ use rules::{
 use std::alloc::{AllocError, Global};
 
 impl KnownGroups {
-    /// A problem without facts and steps. Later calls need no memory.
+    /// A problem without facts and steps. The room for all groups is reserved: later calls need no memory.
     pub fn new(heap: Global) -> Result<KnownGroups, AllocError>
-        ensures { IfOk result (λ k. known k ≡ nothing) }
+        ensures nothing { IfOk result (λ k. known k ≡ nothing) }
+        ensures room { IfOk result Reserved }
     {
         let groups = Vec::with_capacity(heap, MAX_GROUPS)?;
         let problem = Problem {

@@ -7,7 +7,7 @@ use Rattle.cases.proofs.running.run.Goals as goal
 pub loop-call-init : goal.loop-call-init
 loop-call-init g c = (
   running_first (g.P.Picker.choice c.args.picker.now) (g.D.Decider.reach c.args.decider.now) g.D.Decider.signed (view c.in-Ok-Ok.case)
-      (vec_items c.in-Ok-Ok.answers) c.in-Ok-Ok.ensures c.in-Ok-Ok.ensures'.items,
+      (vec_items c.in-Ok-Ok.answers) c.in-Ok-Ok.ensures.fresh c.in-Ok-Ok.ensures'.items,
   same_self (g.D.Decider.reach c.args.decider.now),
   omega (arith, c.into_iter-call-iterator.ensures.into_iter_gives.1, c.in-Ok-Ok.ensures'.capacity, c.len.ensures),
 )
