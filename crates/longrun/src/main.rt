@@ -136,9 +136,29 @@ fn report_all<D: Decider, P: Picker>(
 fn main(rt: HostRuntime) -> io::Result<()> {
     let (counting, branching) = (CountingPicker, BranchingPicker);
     let mut screen = Screen::<Forward>::default();
-    report_all(&rt, "a screen over forward, the counting picker", &mut screen, &counting)?;
-    report_all(&rt, "forward, the branching picker", &mut Forward::default(), &branching)?;
+    report_all(
+        &rt,
+        "a screen over forward, the counting picker",
+        &mut screen,
+        &counting,
+    )?;
+    report_all(
+        &rt,
+        "forward, the branching picker",
+        &mut Forward::default(),
+        &branching,
+    )?;
     let mut backward = Backward::default();
-    report_all(&rt, "backward, the counting picker", &mut backward, &counting)?;
-    report_all(&rt, "backward, the branching picker", &mut backward, &branching)
+    report_all(
+        &rt,
+        "backward, the counting picker",
+        &mut backward,
+        &counting,
+    )?;
+    report_all(
+        &rt,
+        "backward, the branching picker",
+        &mut backward,
+        &branching,
+    )
 }
