@@ -17,7 +17,7 @@ use Rattle.cases.specs.Finding.{Finds}
 use Rattle.casefile.specs.declared.fault.LineFault.{LineFault}
 use Rattle.casefile.specs.declared.serving.Reply.{Reply}
 use Rattle.casefile.specs.declared.serving.Reply.TheVariants.{Done, Found}
-use Rattle.casefile.specs.Faults.{added}
+use Rattle.casefile.specs.Faults.{told}
 use Rattle.casefile.specs.Serving.{called, looked, Serves}
 use Rattle.casefile.specs.Reporting.{reply_bytes, Fits}
 
@@ -49,7 +49,7 @@ short_added (Some (SetAndMark x y)) = omega arith
 pub short_reply : (kind line : ℕ) (r : Result Reply LineFault) (b : List ℕ) → Fits r b → length (reply_bytes kind line r b) ≤ 4104
 short_reply kind line (Ok Done) b fits = omega arith
 short_reply kind line (Ok (Found s count n)) b (le, few) = omega (arith, length-take-le n b le)
-short_reply kind line (Err e) b fits = omega (arith, short_added (added e))
+short_reply kind line (Err e) b fits = omega (arith, short_added (told e).added)
 
 -- so the report buffer is never too short for one
 pub always_room : (bytes before after : List ℕ) → length bytes ≤ 4104 → 8209 ≤ length before → Printed bytes before after None → ⊥

@@ -2,6 +2,7 @@
 use Rattle.std.specs.Prelude.{◌≡◌, ℕ, List, length, Option, Result}
 use Rattle.rules.specs.Planning.{Task}
 use Rattle.waivers.specs.Searching.{Choice}
+use Rattle.waivers.specs.Reaching.{Same}
 use Rattle.frames.specs.declared.frame.Frame.{Frame}
 use Rattle.cases.specs.State.{view}
 use Rattle.casefile.specs.declared.fault.LineFault.{LineFault}
@@ -18,6 +19,10 @@ module _ {D P : Type 0} where
   KeepsLoans d d' =
       (d'.case.ghost_name ≡ d.case.ghost_name) × (d'.decider.ghost_name ≡ d.decider.ghost_name) × (d'.picker.now ≡ d.picker.now)
       × (d'.sheet.ghost_name ≡ d.sheet.ghost_name) × (d'.book.ghost_name ≡ d.book.ghost_name)
+
+  -- the decider at the desk reaches what it reached
+  abbrev pub KeepsReach : (D → Task → ℕ → ℕ → ℕ → Type 0) → Desk D P → Desk D P → Type 0
+  KeepsReach reach d d' = Same (reach d.decider.now) (reach d'.decider.now)
 
   module _ (choice : P → Choice) (reach : D → Task → ℕ → ℕ → ℕ → Type 0) (mark : ℕ) where
     -- the sets that the decider at the desk reaches, in the case, the sheet and the plan book there

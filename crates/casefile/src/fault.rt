@@ -2,7 +2,7 @@
 
 ghost use Rattle.std.specs.Prelude.{◌≡◌};
 ghost use Rattle.casefile.specs.declared.fault.LineFault.TheVariants.{Frame as OfFrame, Case as OfCase, Finder as OfFinder};
-ghost use Rattle.casefile.specs.Faults.{number as number_of, layer as layer_of, added as added_of};
+ghost use Rattle.casefile.specs.Faults.{told};
 
 use deciders::DeciderFault;
 use frames::{Added, FrameFault};
@@ -25,7 +25,7 @@ pub enum LineFault {
 impl LineFault {
     /// The fault's number in report lines.
     pub fn number(&self) -> u8
-        ensures { result ≡ number_of self.now }
+        ensures { result ≡ (told self.now).refusal }
     {
         // Kept: a variant that holds a value has no discriminant to cast.
         match self {
@@ -38,7 +38,7 @@ impl LineFault {
 
     /// The layer that the fault comes from.
     pub fn layer(&self) -> Layer
-        ensures { result ≡ layer_of self.now }
+        ensures { result ≡ (told self.now).layer }
     {
         match self {
             LineFault::TextTooLong | LineFault::Frame(_) => Layer::Reader,
@@ -49,7 +49,7 @@ impl LineFault {
 
     /// What the fault adds to its report line.
     pub fn added(&self) -> Option<Added>
-        ensures { result ≡ added_of self.now }
+        ensures { result ≡ (told self.now).added }
     {
         let LineFault::Finder(fault) = self else {
             return None;

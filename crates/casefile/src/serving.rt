@@ -2,7 +2,7 @@
 
 ghost use Rattle.std.specs.Prelude.{◌≡◌};
 ghost use Rattle.casefile.specs.Serving.{called};
-ghost use Rattle.casefile.specs.Desks.{KeepsLoans, ServesAt};
+ghost use Rattle.casefile.specs.Desks.{KeepsLoans, KeepsReach, ServesAt};
 
 use crate::fault::LineFault;
 use cases::Case;
@@ -56,6 +56,7 @@ impl<D: Decider, P: Picker> Desk<'_, D, P> {
     /// Makes the call that a frame asks for.
     pub fn serve(&mut self, frame: &Frame) -> Result<Reply, LineFault>
         ensures same { KeepsLoans self.old self.new }
+        ensures reach { KeepsReach D.reach self.old self.new }
         ensures serves { ServesAt P.choice D.reach D.signed frame.now self.old result self.new }
     {
         match *frame {

@@ -1,4 +1,4 @@
-//! Calls that look random, on a case of five facts.
+//! Calls that look random, on a case of five facts. Fact 4 is ordered, and some steps give it.
 
 use crate::making::{find, open, put, sign, tear};
 use cases::Call;
@@ -11,6 +11,9 @@ const TURNS: u32 = 150;
 
 /// The case's number.
 const NUMBER: u32 = 5;
+
+/// The set of the fact that is ordered.
+const ORDERED: Facts = 16;
 
 /// Numbers that look random.
 #[derive(Drop)]
@@ -37,11 +40,12 @@ impl Numbers {
 
 /// A step into some place; it seldom takes what it gives.
 fn some_put(numbers: &mut Numbers) -> Call {
-    let gives = numbers.few();
+    let wanted = if numbers.some() < 32 { ORDERED } else { 0 };
+    let gives = numbers.few() | wanted;
     let takes = numbers.few();
     let others = difference(takes, gives);
     let takes = if numbers.some() == 0 { takes } else { others };
-    put(numbers.place(), numbers.few(), gives, takes)
+    put(numbers.place(), numbers.some() % 16, gives, takes)
 }
 
 /// A find, seldom on a sheet or a book of a wrong size, and now and then on one row.
@@ -54,11 +58,12 @@ fn some_find(heap: Global, numbers: &mut Numbers) -> Result<Call, AllocError> {
     }
 }
 
-/// Draws a slip, signs it seldom, and tears whatever set it has, with a call between that its being out forbids.
-fn slip(numbers: &mut Numbers, calls: &mut Vec<Call>) -> Result<(), AllocError> {
+/// Finds a set and draws a slip for it, tries to sign some slip, and tears whatever set it has, after a call that its being out forbids.
+fn slip(heap: Global, numbers: &mut Numbers, calls: &mut Vec<Call>) -> Result<(), AllocError> {
+    calls.push(find(heap, 32, 32)?)?;
     calls.push(Call::Draw)?;
     calls.push(Call::Grant(numbers.few()))?;
-    if numbers.some() < 8 {
+    if numbers.some() < 32 {
         calls.push(sign(NUMBER, numbers.few()))?;
     }
     for set in 0..32u32 {
@@ -71,13 +76,13 @@ fn slip(numbers: &mut Numbers, calls: &mut Vec<Call>) -> Result<(), AllocError> 
 fn turn(heap: Global, numbers: &mut Numbers, calls: &mut Vec<Call>) -> Result<(), AllocError> {
     let call = match numbers.some() % 16 {
         0 => Call::Grant(numbers.few()),
-        1 | 2 => Call::Lapse(numbers.few()),
-        3..=6 => some_put(numbers),
+        1..=3 => Call::Lapse(numbers.some() % 32),
+        4..=6 => some_put(numbers),
         7 => Call::Withdraw(numbers.place()),
         8 => Call::Carry(numbers.place()),
-        9 | 10 => Call::Order(numbers.few()),
-        11 => Call::Cancel(numbers.few()),
-        12 => return slip(numbers, calls),
+        9 => Call::Order(ORDERED | numbers.few() & numbers.some()),
+        10 => Call::Cancel(numbers.few()),
+        11 | 12 => return slip(heap, numbers, calls),
         _ => some_find(heap, numbers)?,
     };
     calls.push(call)?;
@@ -88,7 +93,7 @@ fn turn(heap: Global, numbers: &mut Numbers, calls: &mut Vec<Call>) -> Result<()
 pub fn random_calls(heap: Global, seed: u32) -> Result<Vec<Call>, AllocError> {
     let mut numbers = Numbers(Generator::new(seed));
     let mut calls = Vec::new(heap);
-    calls.push(open(NUMBER, 5, numbers.few() % 32, numbers.few() % 32))?;
+    calls.push(open(NUMBER, 5, 0, ORDERED))?;
     for _ in 0..TURNS {
         turn(heap, &mut numbers, &mut calls)?;
     }

@@ -3,7 +3,7 @@
 ghost use Rattle.std.specs.Prelude.{◌≡◌};
 ghost use Rattle.frames.specs.Reports.{Printed};
 ghost use Rattle.casefile.specs.Reporting.{reply_bytes, Fits};
-ghost use Rattle.casefile.specs.Desks.{KeepsLoans, AsksAt, ReadsAt};
+ghost use Rattle.casefile.specs.Desks.{KeepsLoans, KeepsReach, AsksAt, ReadsAt};
 
 use crate::fault::LineFault;
 use crate::reading::Reading;
@@ -38,6 +38,7 @@ impl<D: Decider, P: Picker> Desk<'_, D, P> {
     /// Makes the call that a line asks for.
     fn ask(&mut self, line: &[u8]) -> Answer
         ensures same { KeepsLoans self.old self.new }
+        ensures reach { KeepsReach D.reach self.old self.new }
         ensures asks { AsksAt P.choice D.reach D.signed line.now result.kind self.old result.reply self.new }
         ensures fits { Fits result.reply self.new.book.now }
     {
@@ -97,6 +98,7 @@ impl Reading {
         buffer: &mut [u8],
     ) -> Result<Option<usize>, ReadFault>
         ensures same { KeepsLoans desk.old desk.new }
+        ensures reach { KeepsReach D.reach desk.old desk.new }
         ensures reads { ReadsAt P.choice D.reach D.signed text.now self.old self.new desk.old desk.new buffer.old buffer.new result }
     {
         if buffer.len() < MIN_REPORT {
