@@ -1,7 +1,7 @@
 //! All twelve calls, with every refusal of each.
 //!
-//! The case has five facts. Fact 1 stands and fact 3 is ordered. The step at place 0 needs 1 and 2, gives 3 and takes 1; the one at
-//! place 1 needs 0 and gives 2. So the set of fact 0 is good, and so is that of fact 2.
+//! The case has five facts. Fact 1 stands, and facts 2 and 3 are ordered. The step at place 0 needs 1 and 2, gives 3 and takes 1; the
+//! one at place 1 needs 0 and gives 2. So the set of fact 0 is the only smallest good set, and every picker's answer.
 
 use crate::making::{find, open, put, sign, tear};
 use cases::Call;
@@ -27,7 +27,7 @@ fn unopened(heap: Global, calls: &mut Vec<Call>) -> Result<(), AllocError> {
     calls.push(open(7, 33, 0, 0))?;
     calls.push(open(7, 5, UNKNOWN, 0))?;
     calls.push(open(7, 5, 0, UNKNOWN))?;
-    calls.push(open(7, 5, 0b00010, 0b01000))?;
+    calls.push(open(7, 5, 0b00010, 0b01100))?;
     calls.push(open(8, 0, 0, 0))?;
     Ok(())
 }

@@ -50,11 +50,11 @@ fn fours_of_seven(heap: Global) -> Result<Vec<Facts>, AllocError> {
 fn report(rt: &HostRuntime, name: &str, groups: &[Facts]) -> io::Result<()> {
     let count = groups.len();
     let lowest = CountingPicker.pick(groups).unwrap_or(0);
-    let branched = BranchingPicker.pick(groups).unwrap_or(0);
+    let highest = BranchingPicker.pick(groups).unwrap_or(0);
     let least = size(lowest);
-    let as_small = size(branched) == least;
+    let as_small = size(highest) == least;
     println!(rt;
-        "{name}, {count} groups: size {least}, lowest {lowest:08x}, branching {branched:08x}, as small: {as_small}"
+        "{name}, {count} groups: size {least}, lowest {lowest:08x}, highest {highest:08x}, as small: {as_small}"
     )
 }
 

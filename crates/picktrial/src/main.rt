@@ -1,23 +1,11 @@
-//! Answers each line of the input, a list of sets as decimal numbers, by both pickers.
-//!
-//! Of the counting picker it prints the set, of the branching picker, whose set is free, the size and whether it meets every group.
+//! Answers each line of the input, a list of sets as decimal numbers, by both pickers: the lowest and the highest of the smallest sets.
 
 #![tactic(auto)]
 
-ghost use Rattle.std.specs.Prelude.{◌≡◌};
-ghost use Rattle.pickers.specs.Choices.{meets_all};
-
 use pickers::{BranchingPicker, CountingPicker, Picker};
-use rules::{Facts, meets, size};
+use rules::Facts;
 use std::alloc::{AllocError, Global};
 use std::io;
-
-/// Whether the set shares a fact with every group.
-fn meets_all(groups: &[Facts], set: Facts) -> bool
-    ensures { result ≡ meets_all groups.now set }
-{
-    groups.iter().all(|group| meets(set, *group))
-}
 
 /// The sets of a line; nothing where a word is no 32-bit number.
 fn read_list(heap: Global, line: &str) -> Result<Option<Vec<Facts>>, AllocError> {
@@ -37,14 +25,10 @@ fn answers(heap: Global, groups: &[Facts]) -> Result<String, AllocError> {
     let counted = CountingPicker.pick(groups);
     let branched = BranchingPicker.pick(groups);
     match (counted, branched) {
-        (Some(lowest), Some(set)) => {
-            let count = size(set);
-            let met = meets_all(groups, set);
-            format!(in heap; "lowest {lowest}, branching of size {count}, meets all: {met}")
-        }
+        (Some(lowest), Some(highest)) => format!(in heap; "lowest {lowest}, highest {highest}"),
         (None, None) => format!(in heap; "nothing, nothing"),
         (Some(lowest), None) => format!(in heap; "lowest {lowest}, nothing"),
-        (None, Some(set)) => format!(in heap; "nothing, branching {set}"),
+        (None, Some(highest)) => format!(in heap; "nothing, highest {highest}"),
     }
 }
 
