@@ -1,17 +1,18 @@
 #!/usr/bin/env python3
 """Does the judge notice wrong finders, and nothing else?
 
-It runs wrong finders (wrong_finders.py), each with one planted bug, on random case files until the judge (judge.py)
-calls a report of each wrong. On the same files the judge has to accept the program itself, the plain finder without a
+It runs wrong finders (wrong_finders.py), each with one planted bug, on an example file and then on random case files
+until the judge (judge.py) calls a report of each wrong. On the same files the judge has to accept the program itself, the plain finder without a
 bug (plain_finder.py), and a finder that answers other plans, which the rules leave free.
 
     scripts/judge_notices.py PROGRAM --seed 1 --files 1000
 
-The last line is 'noticed N of M wrong finders on F files; 0 lines of right finders called wrong'. The status is 1 if a
+The last line is 'noticed N of M wrong finders on F random files; 0 lines of right finders called wrong'. The status is 1 if a
 wrong finder is not noticed within so many files, or a right one is called wrong.
 """
 import argparse
 import sys
+from pathlib import Path
 
 sys.dont_write_bytecode = True
 
@@ -19,6 +20,10 @@ from judge import MOST_SHOWN, Judgement, print_wrong, run, shown  # noqa: E402
 from plain_finder import PlainFinder  # noqa: E402
 from random_cases import FAMILIES, random_case  # noqa: E402
 from wrong_finders import WRONG_FINDERS  # noqa: E402
+
+
+# No random file tells whether queries are asked that noted answers settle.
+EXAMPLE = Path(__file__).resolve().parent.parent / "examples" / "known-answers.case"
 
 
 class OtherPlans(PlainFinder):
@@ -63,6 +68,7 @@ def main():
     parser.add_argument("--files", type=int, default=1000)
     options = parser.parse_args()
     trial, files = Trial(options.program), 0
+    trial.try_file(EXAMPLE.stem, EXAMPLE.read_bytes())
     while trial.unnoticed and files < options.files:
         family, text = random_case(options.seed, files, list(FAMILIES))
         trial.try_file(f"seed{options.seed}-{files:05d}-{family}", text)
@@ -72,7 +78,7 @@ def main():
     if trial.other_plans == 0:
         print("no file has two right reports: nothing shows that other plans are accepted")
     noticed = len(WRONG_FINDERS) - len(trial.unnoticed)
-    print(f"noticed {noticed} of {len(WRONG_FINDERS)} wrong finders on {files} files; "
+    print(f"noticed {noticed} of {len(WRONG_FINDERS)} wrong finders on {files} random files; "
           f"{trial.wrongly_refused} lines of right finders called wrong")
     return 1 if trial.unnoticed or trial.wrongly_refused or trial.other_plans == 0 else 0
 

@@ -176,6 +176,13 @@ class NoneTooEarly(Case):
         return self.waivable(), None
 
 
+class AsksWhatItKnows(Case):
+    """queries sets that its noted answers settle, and so says beyond reach where it need not"""
+
+    def widened(self, blocked, rows, noted):
+        return super().widened(blocked, rows, [])
+
+
 class ListOf63(Case):
     """says list full with 63 groups"""
 
@@ -322,7 +329,7 @@ WRONG_FINDERS = {
         GroupsKeptAfterGrant, GroupsKeptAfterPut, GroupsKeptAfterCancel, GroupsKeptAfterSign, OrderedFactsStayInGroups,
         FindingKeptAfterLapse, EmptySlipSigned, SignWaivesNothing, WaivedFactOrdered, CarryNeedsWaivedFacts,
         CarryTakesNothing, PlaceCheckedFirst, RanOutIsBlocked, PicksGreedily, AnswersSuperset, PicksTheHighest,
-        NoneTooEarly, ListOf63, ListNeverFull)},
+        NoneTooEarly, AsksWhatItKnows, ListOf63, ListNeverFull)},
     **{wrong.__name__: wrong for wrong in (
         one_row_fewer, last_line_lost, carriage_returns_skipped, long_text_cut, longest_text_refused, takes_not_read,
         size_off_by_one, places_swapped, plan_cut, lines_from_zero, refused_lines_not_counted, wrong_layer,
