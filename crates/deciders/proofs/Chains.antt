@@ -1,12 +1,12 @@
 -- The index: an empty one, one more entry, and following a chain.
-use Rattle.std.proofs.Common.{◌≡◌, ℕ, zero, suc, ◌+◌, ◌<◌, ◌≤◌, T, true, false, List, [], ◌∷◌, ◌++◌, length, get_or, set, replicate, Some, None, refl, sym, ap, ◌∙◌, subst, inl, inr, arith}
+use Rattle.std.proofs.Common.{◌≡◌, ℕ, ◌+◌, ◌-◌, ◌<◌, ◌≤◌, T, true, false, List, [], ◌∷◌, ◌++◌, length, get_or, set, replicate, sym, ap, ◌∙◌, subst, inl, inr, arith}
 use Rattle.std.proofs.lemmas.Bool.{cases_eq, false_from_ne_true}
 use Rattle.std.proofs.lemmas.Grind.{common_steps}
 use Rattle.rules.specs.Listing.{listed}
 use Rattle.rules.proofs.Listing.{T→true, listed→, →listed}
 use Rattle.deciders.specs.declared.row.Row.{Row}
 use Rattle.deciders.specs.Rows.{row, entries}
-use Rattle.deciders.specs.Chains.{hash_of, link, linked, Indexed}
+use Rattle.deciders.specs.Chains.{hash_of, link, Indexed}
 
 -- ---- the sets of the first rows
 
@@ -67,42 +67,34 @@ pub record Looking (l : List ℕ) (s link : ℕ) : Type 0 where
   pub alike : (i : ℕ) → link ≡ i + 1 → hash_of (get_or l i 0) ≡ hash_of s
   pub left : (j : ℕ) → j < length l → get_or l j 0 ≡ s → j < link
 
--- no entry, or the one below the link
-no_link : (k : ℕ) → None ≡ linked k → k ≡ 0
-no_link zero e = refl
-no_link (suc i) e = cc
-
-link_of : (k i : ℕ) → Some i ≡ linked k → k ≡ i + 1
-link_of zero i e = cc
-link_of (suc j) i e = let q : i ≡ j = cc in omega arith
-
 -- the same, over the rows that the code reads
-module _ (sheet : List Row) (n s : ℕ) (fits : n ≤ length sheet) (k : ℕ) (x : Looking (entries sheet n) s k) where
-  pub missing : None ≡ linked k → false ≡ listed s (entries sheet n)
-  missing e = sym (false_from_ne_true (listed s (entries sheet n)) (λ t.
-      let (i, h, q) = listed→ s (entries sheet n) (subst T (sym t) tt) in absurd (omega (arith, x.left i h q, no_link k e))))
+module _ (sheet : List Row) (n s : ℕ) (fits : n ≤ length sheet) (start number : ℕ) (x : Looking (entries sheet n) s (link start number)) where
+  pub missing : (start ≤ number → ⊥) → false ≡ listed s (entries sheet n)
+  missing none = sym (false_from_ne_true (listed s (entries sheet n)) (λ t.
+      let (i, h, q) = listed→ s (entries sheet n) (subst T (sym t) tt) in absurd (omega (arith, x.left i h q))))
 
-  module _ (i : ℕ) (is : Some i ≡ linked k) where
+  module _ (i : ℕ) (from : start ≤ number) (is : i ≡ number - start) where
     pub in_count : i < n
-    in_count = omega (arith, x.low, link_of k i is, entries_length sheet n fits)
+    in_count = omega (arith, x.low, entries_length sheet n fits)
 
-    pub look_on : (start : ℕ) (heads links : List ℕ) → Indexed start heads links (entries sheet n) → ((row sheet i).set ≡ s → ⊥)
+    pub look_on : (heads links : List ℕ) → Indexed start heads links (entries sheet n) → ((row sheet i).set ≡ s → ⊥)
         → Looking (entries sheet n) s (link start (get_or links i 0))
-    look_on start heads links y isnt =
+    look_on heads links y isnt =
         let l : List ℕ = entries sheet n in
         let fit : i < length l = omega (arith, in_count, entries_length sheet n fits) in
+        let here : link start number ≡ i + 1 = omega arith in
         let not_here : get_or l i 0 ≡ s → ⊥ = λ same. isnt (sym (entries_at sheet n i fits in_count) ∙ same) in
         record {
           low = omega (arith, y.falls i fit);
-          alike = λ j h. y.alike_next i j fit h ∙ x.alike i (link_of k i is);
+          alike = λ j h. y.alike_next i j fit h ∙ x.alike i here;
           left = λ j h same. elim (cases_eq j i) [
-            | inl here ↦ absurd (not_here (ap (λ (v : ℕ). get_or l v 0) (sym here) ∙ same))
-            | inr apart ↦ y.rest i j (omega (arith, x.left j h same, link_of k i is)) fit (ap hash_of same ∙ sym (x.alike i (link_of k i is)))
+            | inl e ↦ absurd (not_here (ap (λ (v : ℕ). get_or l v 0) (sym e) ∙ same))
+            | inr apart ↦ y.rest i j (omega (arith, x.left j h same)) fit (ap hash_of same ∙ sym (x.alike i here))
           ];
         }
 
-    pub falls_on : (start : ℕ) (heads links : List ℕ) → Indexed start heads links (entries sheet n) → link start (get_or links i 0) < k
-    falls_on start heads links y = omega (arith, y.falls i (omega (arith, in_count, entries_length sheet n fits)), link_of k i is)
+    pub falls_on : (heads links : List ℕ) → Indexed start heads links (entries sheet n) → link start (get_or links i 0) < link start number
+    falls_on heads links y = omega (arith, y.falls i (omega (arith, in_count, entries_length sheet n fits)))
 
     pub found : (row sheet i).set ≡ s → true ≡ listed s (entries sheet n)
     found e = sym (T→true (listed s (entries sheet n))

@@ -1,5 +1,5 @@
 -- An index over the entries of a listing: for each hash a chain of the entries that have it.
-use Rattle.std.specs.Prelude.{◌≡◌, ℕ, zero, suc, ◌+◌, ◌-◌, ◌*◌, ◌/◌, ◌%◌, ◌^◌, ◌<◌, ◌≤◌, List, length, slice_index, Some, None, Option}
+use Rattle.std.specs.Prelude.{◌≡◌, ℕ, ◌+◌, ◌-◌, ◌*◌, ◌/◌, ◌%◌, ◌^◌, ◌<◌, ◌≤◌, List, length, slice_index}
 
 -- the hash of a set, below 4,096
 unfoldable pub hash_of : ℕ → ℕ
@@ -8,11 +8,6 @@ hash_of s = s * 2654435769 % 2 ^ 32 / 2 ^ 20
 -- Entries are numbered from a start on, and a lower number stands for none. A link is one more than the entry of a number, or 0.
 abbrev pub link : ℕ → ℕ → ℕ
 link start number = number + 1 - start
-
--- the entry that a link leads to: none for 0, or that with the number below it
-abbrev pub linked : ℕ → Option ℕ
-linked zero = None
-linked (suc i) = Some i
 
 -- The chain of a hash goes from its head down through all the entries that have it.
 pub record Indexed (start : ℕ) (heads links l : List ℕ) : Type 0 where

@@ -1,7 +1,7 @@
 //! An index over the rows of a sheet, so that it costs little to ask whether a set is listed.
 
-ghost use Rattle.std.specs.Prelude.{◌≡◌, ℕ, ◌+◌, ◌^◌, ◌<◌, ◌≤◌, [], length, slice_index, slice_set};
-ghost use Rattle.deciders.specs.Chains.{hash_of, link, linked, Indexed};
+ghost use Rattle.std.specs.Prelude.{◌≡◌, ℕ, ◌+◌, ◌-◌, ◌^◌, ◌<◌, ◌≤◌, ◌↔◌, [], IsTrue, length, slice_index, slice_set};
+ghost use Rattle.deciders.specs.Chains.{hash_of, Indexed};
 
 use crate::limits::MAX_ROWS;
 use rules::Facts;
@@ -54,15 +54,23 @@ impl Index {
         self.start += ROWS;
     }
 
-    /// The row with this number, if it is a number of this listing.
-    pub(crate) fn row(&self, number: u32) -> Option<usize>
-        ensures { result ≡ linked (link self.now.start number) }
+    /// Whether a row has this number.
+    // Kept: a test, and below a difference, since an option of the row costs each turn of the loop over a chain.
+    pub(crate) fn is_row(&self, number: u32) -> bool
+        ensures { IsTrue result ↔ (self.now.start ≤ number) }
     {
-        (number as usize).checked_sub(self.start as usize)
+        self.start <= number
+    }
+
+    /// The row with this number.
+    pub(crate) fn row(&self, number: u32) -> usize
+        requires { self.now.start ≤ number }
+        ensures { result ≡ number - self.now.start }
+    {
+        (number - self.start) as usize
     }
 
     /// The number of the newest row with the hash of this set.
-    // Kept: a number and not its row, since the loop over a chain is slower where it carries an option from turn to turn.
     pub(crate) fn first(&self, set: Facts) -> u32
         ensures { result ≡ slice_index self.now.heads (hash_of set) }
     {

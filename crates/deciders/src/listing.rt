@@ -55,7 +55,8 @@ impl<'a> Listing<'a> {
         ensures { result ≡ listed wanted (entries self.now.rows.now self.now.count) }
     {
         let mut number = self.index.first(wanted);
-        while let Some(row) = self.index.row(number) {
+        while self.index.is_row(number) {
+            let row = self.index.row(number);
             if self.rows[row].set == wanted {
                 return true;
             }
