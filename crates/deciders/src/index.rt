@@ -1,12 +1,12 @@
 //! An index over the rows of a sheet, so that it costs little to ask whether a set is listed.
 
-ghost use Rattle.std.specs.Prelude.{◌≡◌, ℕ, ◌+◌, ◌-◌, ◌^◌, ◌<◌, ◌≤◌, ◌↔◌, [], IsTrue, length, slice_index, slice_set};
+ghost use Rattle.std.specs.Prelude.{◌≡◌, ℕ, ◌+◌, ◌-◌, ◌^◌, ◌<◌, ◌≤◌, ◌↔◌, [], IsTrue, length, replicate, slice_index, slice_set};
 ghost use Rattle.deciders.specs.Chains.{hash_of, Indexed};
 
 use crate::limits::MAX_ROWS;
 use rules::Facts;
 
-/// The rows of a sheet are fewer than the numbers of a `u32`.
+/// The most rows that a sheet may have, as a number that the index gives.
 const ROWS: u32 = MAX_ROWS as u32;
 
 /// For each hash a chain of the rows whose sets have it, the newest first. The row r has the number `start + r`, and what is
@@ -24,6 +24,8 @@ pub struct Index {
 }
 
 impl Default for Index {
+    ghost is_default = { λ i. (i.heads ≡ replicate 4096 0) × (i.links ≡ replicate 4096 0) × (i.start ≡ 0) };
+
     fn default() -> Index {
         Index {
             heads: [0; MAX_ROWS],

@@ -28,6 +28,7 @@ pub struct Listing<'a> {
 
 impl<'a> Listing<'a> {
     /// A listing of no entries on these rows. What the index held is forgotten.
+    // `loan`, here and below: the index is still the one that was lent
     pub(crate) fn new(rows: &'a mut [Row], index: &'a mut Index) -> Listing<'a>
         requires { length rows.old ≤ 4096 }
         ensures rows { result.rows.now ≡ rows.old }
