@@ -16,7 +16,7 @@ fn is_untouched(book: &[u8], from: usize) -> bool {
 }
 
 /// Asks the decider, and prints what it says.
-pub fn ask<D: Decider>(
+pub(crate) fn ask<D: Decider>(
     rt: &HostRuntime,
     name: &str,
     decider: &mut D,

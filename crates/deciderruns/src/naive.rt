@@ -29,7 +29,7 @@ fn mark_once(problem: &Problem, gone: Facts, marked: &mut [bool; STANDINGS]) {
 }
 
 /// How many standings of a problem of six facts can be reached, and whether the order stands in one of them.
-pub fn reachable(problem: &Problem, strike: Facts) -> (usize, bool) {
+pub(crate) fn reachable(problem: &Problem, strike: Facts) -> (usize, bool) {
     let gone = strike | problem.waived;
     let order = difference(problem.order, gone);
     let start = difference(problem.standing.facts, gone) as usize;

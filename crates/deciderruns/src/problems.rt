@@ -3,7 +3,7 @@
 use rules::{Problem, Refusal, Standing, Step, StepTable};
 
 /// Nothing stands, three steps freely give fact 0, 1 or 2, and fact 3 is ordered and never given.
-pub fn free_facts() -> Result<Problem, Refusal> {
+pub(crate) fn free_facts() -> Result<Problem, Refusal> {
     let mut table = StepTable::new();
     for fact in 0..3u8 {
         table.put(
@@ -24,7 +24,7 @@ pub fn free_facts() -> Result<Problem, Refusal> {
 }
 
 /// Fact 1 stands and fact 3 is ordered. Step 0 needs 1 and 2, gives 3 and takes 1; step 1 needs 0 and gives 2.
-pub fn licence() -> Result<Problem, Refusal> {
+pub(crate) fn licence() -> Result<Problem, Refusal> {
     let mut table = StepTable::new();
     table.put(
         0,
@@ -52,7 +52,7 @@ pub fn licence() -> Result<Problem, Refusal> {
 }
 
 /// A binary counter of nine digits: fact `i` is the digit 1 at `i`, and fact `9 + i` the digit 0. It counts from 0 up to 511.
-pub fn counter() -> Result<Problem, Refusal> {
+pub(crate) fn counter() -> Result<Problem, Refusal> {
     let mut table = StepTable::new();
     for i in 0..9u8 {
         let digit = 1u32 << i;
@@ -76,7 +76,7 @@ pub fn counter() -> Result<Problem, Refusal> {
 }
 
 /// Twelve facts that are switched on and off freely, and two more: with fact 12, which nothing gives, one gets the ordered fact 13.
-pub fn switches() -> Result<Problem, Refusal> {
+pub(crate) fn switches() -> Result<Problem, Refusal> {
     let mut table = StepTable::new();
     for i in 0..12u8 {
         let fact = 1u32 << i;

@@ -14,7 +14,7 @@ pub struct Query<'a> {
 
 impl Query<'_> {
     /// A query with nothing struck out, on a sheet and a book of these sizes.
-    pub fn whole(problem: &Problem, rows: usize, places: usize) -> Query<'_> {
+    pub(crate) fn whole(problem: &Problem, rows: usize, places: usize) -> Query<'_> {
         Query {
             problem,
             strike: 0,
@@ -24,7 +24,7 @@ impl Query<'_> {
     }
 
     /// Whether the first places of the book are a plan of this length, shorter than the sheet.
-    pub fn is_plan(&self, length: u16, book: &[u8]) -> bool {
+    pub(crate) fn is_plan(&self, length: u16, book: &[u8]) -> bool {
         let k = usize::from(length);
         let plan = book.get(..k).filter(|_| k < self.rows);
         plan.is_some_and(|plan| walks(self.problem, self.strike, plan))

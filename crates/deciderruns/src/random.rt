@@ -136,7 +136,7 @@ fn ask_all(asked: &mut Asked, problem: &Problem, strike: Facts, tally: &mut Tall
 }
 
 /// Decides random problems in every way, and counts the answers.
-pub fn compare() -> Result<Tally, Refusal> {
+pub(crate) fn compare() -> Result<Tally, Refusal> {
     let mut sets = Sets(Generator::new(2_026));
     let mut asked = Asked::default();
     let mut tally = Tally::default();

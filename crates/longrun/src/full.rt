@@ -9,7 +9,7 @@ use std::alloc::{AllocError, Global};
 ///
 /// So the good sets are those with five of the eight. All 70 sets of four are groups, and as long as one of them isn't listed, the
 /// four other facts are a smallest set that is blocked.
-pub fn full_list(heap: Global) -> Result<Vec<Call>, AllocError> {
+pub(crate) fn full_list(heap: Global) -> Result<Vec<Call>, AllocError> {
     let mut calls = Vec::new(heap);
     calls.push(open(9, 9, 0, 1 << 8))?;
     let fives = (0..256u32).filter(|set| size(*set) == 5);

@@ -8,7 +8,7 @@ use deciders::Row;
 use rules::{Facts, Step};
 use std::alloc::{AllocError, Global};
 
-pub fn open(number: u32, n: u8, standing: Facts, order: Facts) -> Call
+pub(crate) fn open(number: u32, n: u8, standing: Facts, order: Facts) -> Call
     ensures { result ≡ OfOpen number n standing order }
 {
     Call::Open {
@@ -19,7 +19,7 @@ pub fn open(number: u32, n: u8, standing: Facts, order: Facts) -> Call
     }
 }
 
-pub fn put(place: u8, needs: Facts, gives: Facts, takes: Facts) -> Call
+pub(crate) fn put(place: u8, needs: Facts, gives: Facts, takes: Facts) -> Call
     ensures { result ≡ OfPut place (record { needs = needs; gives = gives; takes = takes }) }
 {
     let step = Step {
@@ -31,19 +31,19 @@ pub fn put(place: u8, needs: Facts, gives: Facts, takes: Facts) -> Call
 }
 
 /// Find on a sheet of `rows` rows and a book of `places` places.
-pub fn find(heap: Global, rows: usize, places: usize) -> Result<Call, AllocError> {
+pub(crate) fn find(heap: Global, rows: usize, places: usize) -> Result<Call, AllocError> {
     let sheet = vec![in heap; Row::default(); rows]?;
     let book = vec![in heap; 0u8; places]?;
     Ok(Call::Find { sheet, book })
 }
 
-pub fn sign(number: u32, set: Facts) -> Call
+pub(crate) fn sign(number: u32, set: Facts) -> Call
     ensures { result ≡ OfSign number «set» }
 {
     Call::Sign { number, set }
 }
 
-pub fn tear(number: u32, set: Facts) -> Call
+pub(crate) fn tear(number: u32, set: Facts) -> Call
     ensures { result ≡ OfTear number «set» }
 {
     Call::Tear { number, set }

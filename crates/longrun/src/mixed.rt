@@ -139,7 +139,7 @@ fn withdrawn(heap: Global, calls: &mut Vec<Call>) -> Result<(), AllocError> {
 }
 
 /// The whole list of calls.
-pub fn mixed_calls(heap: Global) -> Result<Vec<Call>, AllocError> {
+pub(crate) fn mixed_calls(heap: Global) -> Result<Vec<Call>, AllocError> {
     let mut calls = Vec::new(heap);
     unopened(heap, &mut calls)?;
     steps(&mut calls)?;

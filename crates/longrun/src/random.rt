@@ -90,7 +90,7 @@ fn turn(heap: Global, numbers: &mut Numbers, calls: &mut Vec<Call>) -> Result<()
 }
 
 /// A list of calls on a case that is opened first.
-pub fn random_calls(heap: Global, seed: u32) -> Result<Vec<Call>, AllocError> {
+pub(crate) fn random_calls(heap: Global, seed: u32) -> Result<Vec<Call>, AllocError> {
     let mut numbers = Numbers(Generator::new(seed));
     let mut calls = Vec::new(heap);
     calls.push(open(NUMBER, 5, 0, ORDERED))?;

@@ -16,14 +16,14 @@ pub struct Tally {
 
 impl Tally {
     /// Nothing is counted yet.
-    pub fn new() -> Tally {
+    pub(crate) fn new() -> Tally {
         Tally {
             counts: [[0; 23]; 12],
         }
     }
 
     /// Counts an answer to a call of this name: a refusal's number, or 0.
-    pub fn count(&mut self, name: &str, number: u8) {
+    pub(crate) fn count(&mut self, name: &str, number: u8) {
         for (counts, known) in self.counts.iter_mut().zip(NAMES) {
             if known == name {
                 if let Some(count) = counts.get_mut(usize::from(number)) {
@@ -34,7 +34,7 @@ impl Tally {
     }
 
     /// Prints a line for each count above 0.
-    pub fn print(&self, rt: &HostRuntime) -> io::Result<()> {
+    pub(crate) fn print(&self, rt: &HostRuntime) -> io::Result<()> {
         for (counts, name) in self.counts.iter().zip(NAMES) {
             print_counts(rt, name, counts)?;
         }
