@@ -30,7 +30,7 @@ use Rattle.cases.specs.Plain.{Plain, unopened, opening, naming, putting, orderin
 use Rattle.cases.specs.State.{State, fresh, known_of, opened, filled, granted, lapsed, ordered, cancelled, withdrawn, carried, drawn, signed, torn}
 use Rattle.cases.specs.Finding.{found, zero_row, Answered, Finds}
 use Rattle.cases.specs.Replay.{refused, of_case, turned_down, met, rule, unless, next, replay, after_calls, set_found}
-use Rattle.cases.specs.Making.{Makes}
+use Rattle.cases.specs.Making.{Makes, Made, unmade, then}
 use Rattle.cases.specs.Law.{FoundTruly, Left, Promised, Keeps, Runs, none, more, paired, Law}
 
 -- ---- a find, with the buffers as vectors
@@ -147,7 +147,7 @@ all_met p gs listed x good = Each1-from_get_or (λ g. Meets x g) gs 0 (λ i lt. 
 module _ (c : Choice) (R : Task → ℕ → ℕ → ℕ → Type 0) (m : ℕ) (k k' : State) (good : GoodFinding k.plain) where
   -- what is owed of a call x with the answer a
   abbrev Kept : Call → Answer → Type 0
-  Kept x a = Keeps c R m k.plain (next k.plain x a) k x a k' × GoodFinding k'.plain
+  Kept x a = Keeps R m k.plain (next k.plain x a) x a k' × GoodFinding k'.plain
 
   abbrev Promise : Call → Answer → Type 0
   Promise x a = Promised R m k.plain x a (next k.plain x a) k'.groups
@@ -158,7 +158,7 @@ module _ (c : Choice) (R : Task → ℕ → ℕ → ℕ → Type 0) (m : ℕ) (k
 
   -- a call that answers whether it was made: what is left to show is its promise, and that the finding stays good where it was made
   module _ (x : Call) (a : Answer) (r : Result Unit Refusal) (f : State → State) (refuses : refused k.plain x ≡ of_case r)
-      (rules : rule k.plain x a ≡ (f k).plain) (said : a ≡ Done r) (is : k' ≡ after r f k) (made : Makes c R m k x a k') where
+      (rules : rule k.plain x a ≡ (f k).plain) (said : a ≡ Done r) (is : k' ≡ after r f k) where
     done_by : (r ≡ Ok tt → Promise x (Done (Ok tt)) × GoodFinding (f k).plain) → ((e : Refusal) → r ≡ Err e → Promise x (Done (Err e))) → Kept x a
     done_by accepts refused_so = go r refl
       where
@@ -169,7 +169,6 @@ module _ (c : Choice) (R : Task → ℕ → ℕ → ℕ → Type 0) (m : ℕ) (k
                 state = ap (λ (n : State). n.plain) way ∙ sym rules ∙ next_by x a (Ok tt) (refuses ∙ ap of_case e);
                 refusal = ap met said ∙ sym refuses;
                 promise = subst (λ (b : Answer). Promise x b) (sym (said ∙ ap Done e)) (accepts e).0;
-                call = made;
               },
               subst (λ (n : State). GoodFinding n.plain) (sym way) (accepts e).1,
             )
@@ -179,26 +178,25 @@ module _ (c : Choice) (R : Task → ℕ → ℕ → ℕ → Type 0) (m : ℕ) (k
                 state = ap (λ (n : State). n.plain) way ∙ next_by x a (Err (Case q)) (refuses ∙ ap of_case e);
                 refusal = ap met said ∙ sym refuses;
                 promise = subst (λ (b : Answer). Promise x b) (sym (said ∙ ap Done e)) (refused_so q e);
-                call = made;
               },
               subst (λ (n : State). GoodFinding n.plain) (sym way) good,
             )
 
   -- a call that forgets the finding and promises no more
   plainly : (x : Call) (a : Answer) (r : Result Unit Refusal) (f : State → State) → refused k.plain x ≡ of_case r → rule k.plain x a ≡ (f k).plain
-      → (f k).plain.finding ≡ None → ((o : Result Unit Refusal) → Promise x (Done o)) → Makes c R m k x a k' → (a ≡ Done r) × (k' ≡ after r f k) → Kept x a
-  plainly x a r f refuses rules forgets promise made (said, is) =
-      done_by x a r f refuses rules said is made (λ e. (promise (Ok tt), no_finding (f k).plain forgets)) (λ e q. promise (Err e))
+      → (f k).plain.finding ≡ None → ((o : Result Unit Refusal) → Promise x (Done o)) → (a ≡ Done r) × (k' ≡ after r f k) → Kept x a
+  plainly x a r f refuses rules forgets promise (said, is) =
+      done_by x a r f refuses rules said is (λ e. (promise (Ok tt), no_finding (f k).plain forgets)) (λ e q. promise (Err e))
 
   -- a slip is torn: the finding stays
   tears : (number s : ℕ) (a : Answer) → Makes c R m k (Tear number s) a k' → Kept (Tear number s) a
   tears number s a (said, is) =
-      done_by (Tear number s) a (deciding k.plain number s) torn refl refl said is (said, is) (λ e. (tt, good)) (λ e q. tt)
+      done_by (Tear number s) a (deciding k.plain number s) torn refl refl said is (λ e. (tt, good)) (λ e q. tt)
 
   -- a slip is signed: its set was found, and is waived
   signs : (number s : ℕ) (a : Answer) → Makes c R m k (Sign number s) a k' → Kept (Sign number s) a
   signs number s a (said, is) =
-      done_by (Sign number s) a (deciding k.plain number s) (signed s) refl refl said is (said, is)
+      done_by (Sign number s) a (deciding k.plain number s) (signed s) refl refl said is
       (λ e. (
         subst (λ (p : Plain). Solvable p.task 0) (next_by (Sign number s) (Done (Ok tt)) (Ok tt) (ap of_case e))
             (waived_solvable k.plain.task s (good s (decided_set k.plain number s e))),
@@ -220,7 +218,6 @@ module _ (c : Choice) (R : Task → ℕ → ℕ → ℕ → Type 0) (m : ℕ) (k
               state = ap (λ (n : State). n.plain) way ∙ next_by Draw a (Ok tt) (ap (λ (q : Result (ℕ × ℕ) Refusal). of_case (given q)) e);
               refusal = ap met said;
               promise = promise;
-              call = (said, is);
             },
             subst (λ (n : State). GoodFinding n.plain) (sym way) good,
           )
@@ -230,7 +227,6 @@ module _ (c : Choice) (R : Task → ℕ → ℕ → ℕ → Type 0) (m : ℕ) (k
               state = ap (λ (n : State). n.plain) way ∙ next_by Draw a (Err (Case q)) (ap (λ (q : Result (ℕ × ℕ) Refusal). of_case (given q)) e);
               refusal = ap met said;
               promise = promise;
-              call = (said, is);
             },
             subst (λ (n : State). GoodFinding n.plain) (sym way) good,
           )
@@ -249,9 +245,9 @@ module _ (c : Choice) (R : Task → ℕ → ℕ → ℕ → Type 0) (m : ℕ) (k
     After r o = Finds c Reach m k r k' (vec_items s) (vec_items b) (vec_items s') (vec_items b') o
 
     -- a refused find changes nothing
-    turned : (r : Result (ℕ × ℕ × ℕ) FinderFault) (e : FinderFault) → Makes c R m k (Find s b) (Found r s' b') k' → seeking k.plain rows places ≡ Err e
+    turned : (r : Result (ℕ × ℕ × ℕ) FinderFault) (e : FinderFault) → seeking k.plain rows places ≡ Err e
         → After r (Err e) → Kept (Find s b) (Found r s' b')
-    turned r e made q (is, same, sheet, book) =
+    turned r e q (is, same, sheet, book) =
         let down = ap turned_down is ∙ refusing k.plain rows places e q in (
           record {
             state = ap (λ (n : State). n.plain) same ∙ next_by (Find s b) (Found r s' b') (Err e) q;
@@ -261,43 +257,41 @@ module _ (c : Choice) (R : Task → ℕ → ℕ → ℕ → Type 0) (m : ℕ) (k
                   (nothing_more k.plain rows places Reach m k'.groups (vec_items b') e q),
               subst (λ (o : Result Unit FinderFault). Left o r (vec_items s) (vec_items b) (vec_items s') (vec_items b')) (sym down) (sheet, book),
             );
-            call = made;
           },
           subst (λ (n : State). GoodFinding n.plain) (sym same) good,
         )
 
     -- any other keeps the law, if its answer is true
-    sought : (r : Result (ℕ × ℕ × ℕ) FinderFault) → Makes c R m k (Find s b) (Found r s' b') k' → seeking k.plain rows places ≡ Ok tt
+    sought : (r : Result (ℕ × ℕ × ℕ) FinderFault) → seeking k.plain rows places ≡ Ok tt
         → k' ≡ found k k'.groups (set_found r) → turned_down r ≡ Ok tt → Promise (Find s b) (Found r s' b') → GoodFinding k'.plain
         → Kept (Find s b) (Found r s' b')
-    sought r made q is ends promise stays = (
+    sought r q is ends promise stays = (
       record {
         state = ap (λ (n : State). n.plain) is ∙ next_by (Find s b) (Found r s' b') (Ok tt) q;
         refusal = ends ∙ sym q;
         promise = promise;
-        call = made;
       },
       stays,
     )
 
     -- and it is
-    truly : (r : Result (ℕ × ℕ × ℕ) FinderFault) → Makes c R m k (Find s b) (Found r s' b') k' → seeking k.plain rows places ≡ Ok tt
+    truly : (r : Result (ℕ × ℕ × ℕ) FinderFault) → seeking k.plain rows places ≡ Ok tt
         → Answered c Reach m k r k' rows (vec_items b') → vec_items s' ≡ replicate rows zero_row → length (vec_items b') ≡ places → Listed (known_of k')
         → Kept (Find s b) (Found r s' b')
-    truly (Ok (x, count, n)) made q (is, counted, lt, (chosen, reached, right, plan, least), book) sheet len listed =
-        sought (Ok (x, count, n)) made q is refl
+    truly (Ok (x, count, n)) q (is, counted, lt, (chosen, reached, right, plan, least), book) sheet len listed =
+        sought (Ok (x, count, n)) q is refl
         ((right, counted, omega (arith, roomy k.plain rows places q), plan, least), (sheet, len, book))
         (subst (λ (o : State). GoodFinding o.plain) (sym is) (λ t e. let same : x ≡ t = cc in subst (Solvable k.plain.task) same right.1))
-    truly (Err (Case e)) made q (is, stop, book) sheet len listed = absurd stop
-    truly (Err SheetSize) made q (is, stop, book) sheet len listed = absurd stop
-    truly (Err BookSize) made q (is, stop, book) sheet len listed = absurd stop
-    truly (Err NoWaiver) made q (is, (unpicked, nothing), book) sheet len listed =
-        sought (Err NoWaiver) made q is refl (nothing, (sheet, len, book)) (no_finding k'.plain (ap (λ (o : State). o.plain.finding) is))
-    truly (Err (Decider (BeyondReach x j))) made q (is, (h, chosen, (out, mark, named)), book) sheet len listed =
-        sought (Err (Decider (BeyondReach x j))) made q is refl ((out, mark), (sheet, len, book)) (no_finding k'.plain (ap (λ (o : State). o.plain.finding) is))
-    truly (Err (ListFull h)) made q (is, (full, chosen, blocked), book) sheet len listed =
+    truly (Err (Case e)) q (is, stop, book) sheet len listed = absurd stop
+    truly (Err SheetSize) q (is, stop, book) sheet len listed = absurd stop
+    truly (Err BookSize) q (is, stop, book) sheet len listed = absurd stop
+    truly (Err NoWaiver) q (is, (unpicked, nothing), book) sheet len listed =
+        sought (Err NoWaiver) q is refl (nothing, (sheet, len, book)) (no_finding k'.plain (ap (λ (o : State). o.plain.finding) is))
+    truly (Err (Decider (BeyondReach x j))) q (is, (h, chosen, (out, mark, named)), book) sheet len listed =
+        sought (Err (Decider (BeyondReach x j))) q is refl ((out, mark), (sheet, len, book)) (no_finding k'.plain (ap (λ (o : State). o.plain.finding) is))
+    truly (Err (ListFull h)) q (is, (full, chosen, blocked), book) sheet len listed =
         let same = subst (λ (p : Task). Listed (record { task = p; groups = k'.groups })) (ap (λ (o : State). o.plain.task) is) listed in
-        sought (Err (ListFull h)) made q is refl ((full, same, all_met k.plain.task k'.groups same), (sheet, len, book))
+        sought (Err (ListFull h)) q is refl ((full, same, all_met k.plain.task k'.groups same), (sheet, len, book))
         (no_finding k'.plain (ap (λ (o : State). o.plain.finding) is))
 
   looks : (s : Vec Row Global) (b : Vec ℕ Global) (a : Answer) → Makes c R m k (Find s b) a k' → Kept (Find s b) a
@@ -306,19 +300,19 @@ module _ (c : Choice) (R : Task → ℕ → ℕ → ℕ → Type 0) (m : ℕ) (k
   looks s b (Found r s' b') (finds, listed) = go (seeking k.plain (length (vec_items s)) (length (vec_items b))) refl finds
     where
       go : (o : Result Unit FinderFault) → seeking k.plain (length (vec_items s)) (length (vec_items b)) ≡ o → After s b s' b' r o → Kept (Find s b) (Found r s' b')
-      go (Err e) q h = turned s b s' b' r e (finds, listed) q h
-      go (Ok u) q (grown, answered, sheet, len) = truly s b s' b' r (finds, listed) q answered sheet len listed
+      go (Err e) q h = turned s b s' b' r e q h
+      go (Ok u) q (grown, answered, sheet, len) = truly s b s' b' r q answered sheet len listed
 
   -- every call keeps the law, and the finding stays good
   pub keeps : (x : Call) (a : Answer) → Makes c R m k x a k' → Kept x a
-  keeps (Open number n s o) a h = plainly (Open number n s o) a (opening k.plain n s o) (opened number n s o) refl refl refl (λ o. tt) h h
-  keeps (Grant s) a h = plainly (Grant s) a (naming k.plain s) (granted s) refl refl refl (λ o. tt) h h
-  keeps (Lapse s) a h = plainly (Lapse s) a (naming k.plain s) (lapsed s) refl refl refl (λ o. tt) h h
-  keeps (Put i t) a h = plainly (Put i t) a (putting k.plain i t) (filled i t) refl refl refl (λ o. tt) h h
-  keeps (Withdraw i) a h = plainly (Withdraw i) a (withdrawing k.plain i) (withdrawn i) refl refl refl (λ o. tt) h h
-  keeps (Carry i) a h = plainly (Carry i) a (carrying k.plain i) (carried i) refl refl refl (λ o. tt) h h
-  keeps (Order s) a h = plainly (Order s) a (ordering k.plain s) (ordered s) refl refl refl (λ o. tt) h h
-  keeps (Cancel s) a h = plainly (Cancel s) a (naming k.plain s) (cancelled s) refl refl refl (λ o. tt) h h
+  keeps (Open number n s o) a h = plainly (Open number n s o) a (opening k.plain n s o) (opened number n s o) refl refl refl (λ o. tt) h
+  keeps (Grant s) a h = plainly (Grant s) a (naming k.plain s) (granted s) refl refl refl (λ o. tt) h
+  keeps (Lapse s) a h = plainly (Lapse s) a (naming k.plain s) (lapsed s) refl refl refl (λ o. tt) h
+  keeps (Put i t) a h = plainly (Put i t) a (putting k.plain i t) (filled i t) refl refl refl (λ o. tt) h
+  keeps (Withdraw i) a h = plainly (Withdraw i) a (withdrawing k.plain i) (withdrawn i) refl refl refl (λ o. tt) h
+  keeps (Carry i) a h = plainly (Carry i) a (carrying k.plain i) (carried i) refl refl refl (λ o. tt) h
+  keeps (Order s) a h = plainly (Order s) a (ordering k.plain s) (ordered s) refl refl refl (λ o. tt) h
+  keeps (Cancel s) a h = plainly (Cancel s) a (naming k.plain s) (cancelled s) refl refl refl (λ o. tt) h
   keeps (Find s b) a h = looks s b a h
   keeps Draw a h = draws a h
   keeps (Sign number s) a h = signs number s a h
@@ -393,13 +387,8 @@ module _ (c : Choice) (R S : Task → ℕ → ℕ → ℕ → Type 0) (m : ℕ) 
   makes_on k (Sign number s) a k' h = h
   makes_on k (Tear number s) a k' h = h
 
-  keeps_on : (p p' : Plain) (k : State) (x : Call) (a : Answer) (k' : State) → Keeps c S m p p' k x a k' → Keeps c R m p p' k x a k'
-  keeps_on p p' k x a k' h = record {
-    state = h.state;
-    refusal = h.refusal;
-    promise = promised_on p x a p' k'.groups h.promise;
-    call = makes_on k x a k' h.call;
-  }
+  keeps_on : (p p' : Plain) (x : Call) (a : Answer) (k' : State) → Keeps S m p p' x a k' → Keeps R m p p' x a k'
+  keeps_on p p' x a k' h = record { state = h.state; refusal = h.refusal; promise = promised_on p x a p' k'.groups h.promise }
 
 -- ---- runs
 
@@ -415,40 +404,45 @@ replay_more : (p : Plain) (es : List (Call × Answer)) (x : Call) (a : Answer) �
 replay_more p [] x a = refl
 replay_more p ((y, b) ∷ es) x a = replay_more (next p y b) es x a
 
--- the law of the calls so far, and that a finding is good
+-- the law of the calls so far, that each did what its contract says, and that a finding is good
 pub record Running (c : Choice) (R : Task → ℕ → ℕ → ℕ → Type 0) (m : ℕ) (calls : List Call) (answers : List Answer) (k : State) : Type 0 where
-  pub law : Law c R m calls answers k
+  pub law : Law R m calls answers k
+  pub made : Made c R m (paired calls answers) k
   pub good : GoodFinding k.plain
 
 pub running_first : (c : Choice) (R : Task → ℕ → ℕ → ℕ → Type 0) (m : ℕ) (k : State) (ws : List Answer) → k ≡ fresh → ws ≡ [] → Running c R m [] ws k
 running_first c R m k ws is empty = record {
   law = record {
     answered = ap length empty;
-    runs = subst (λ (n : State). Runs c R m [] n) (sym is) none;
+    runs = subst (λ (n : State). Runs R m [] n) (sym is) none;
     replayed = ap (λ (n : State). n.plain) is;
   };
+  made = subst (λ (n : State). Made c R m [] n) (sym is) unmade;
   good = no_finding k.plain (ap (λ (n : State). n.plain.finding) is);
 }
 
 module _ (c : Choice) (R S : Task → ℕ → ℕ → ℕ → Type 0) (m : ℕ) (k k' : State) (xs : List Call) (ws ws' : List Answer) (x : Call) (a : Answer)
-    (same : Same R S) (before : Running c R m xs ws k) (made : Makes c S m k x a k') where
+    (same : Same R S) (before : Running c R m xs ws k) (makes : Makes c S m k x a k') where
   abbrev es : List (Call × Answer)
   es = paired xs ws
 
   -- the call on the program's case is one on the plain case
-  kept : Keeps c R m (after_calls es) (after_calls (es ++ (x, a) ∷ [])) k x a k'
+  kept : Keeps R m (after_calls es) (after_calls (es ++ (x, a) ∷ [])) x a k'
   kept =
-      let here : Keeps c R m k.plain (next k.plain x a) k x a k' = keeps_on c R S m same k.plain (next k.plain x a) k x a k' (keeps c S m k k' before.good x a made).0 in
-      let on : Keeps c R m (after_calls es) (next (after_calls es) x a) k x a k' =
-      subst (λ (p : Plain). Keeps c R m p (next p x a) k x a k') before.law.replayed here in
-      subst (λ (p : Plain). Keeps c R m (after_calls es) p k x a k') (sym (replay_more unopened es x a)) on
+      let here : Keeps R m k.plain (next k.plain x a) x a k' = keeps_on c R S m same k.plain (next k.plain x a) x a k' (keeps c S m k k' before.good x a makes).0 in
+      let on : Keeps R m (after_calls es) (next (after_calls es) x a) x a k' =
+      subst (λ (p : Plain). Keeps R m p (next p x a) x a k') before.law.replayed here in
+      subst (λ (p : Plain). Keeps R m (after_calls es) p x a k') (sym (replay_more unopened es x a)) on
 
   pub running_next : ws' ≡ ws ++ a ∷ [] → Running c R m (xs ++ x ∷ []) ws' k'
-  running_next is = subst (λ (zs : List Answer). Running c R m (xs ++ x ∷ []) zs k') (sym is) (record {
-    law = record {
-      answered = omega (arith, length-append ws (a ∷ []), length-append xs (x ∷ []), before.law.answered);
-      runs = subst (λ (zs : List (Call × Answer)). Runs c R m zs k') (sym (paired_more xs ws x a before.law.answered)) (more before.law.runs x a k' kept);
-      replayed = kept.state ∙ ap after_calls (sym (paired_more xs ws x a before.law.answered));
-    };
-    good = (keeps c S m k k' before.good x a made).1;
-  })
+  running_next is =
+      let on : paired (xs ++ x ∷ []) (ws ++ a ∷ []) ≡ es ++ (x, a) ∷ [] = paired_more xs ws x a before.law.answered in
+      subst (λ (zs : List Answer). Running c R m (xs ++ x ∷ []) zs k') (sym is) (record {
+        law = record {
+          answered = omega (arith, length-append ws (a ∷ []), length-append xs (x ∷ []), before.law.answered);
+          runs = subst (λ (zs : List (Call × Answer)). Runs R m zs k') (sym on) (more before.law.runs x a k' kept);
+          replayed = kept.state ∙ ap after_calls (sym on);
+        };
+        made = subst (λ (zs : List (Call × Answer)). Made c R m zs k') (sym on) (then before.made x a k' (makes_on c R S m same k x a k' makes));
+        good = (keeps c S m k k' before.good x a makes).1;
+      })

@@ -8,7 +8,6 @@ use Rattle.deciders.specs.declared.answer.DeciderFault.TheVariants.{BeyondReach}
 use Rattle.waivers.specs.declared.fault.FinderFault.{FinderFault}
 use Rattle.waivers.specs.declared.fault.FinderFault.TheVariants.{Case, SheetSize, BookSize, NoWaiver, Decider, ListFull}
 use Rattle.waivers.specs.Known.{Listed}
-use Rattle.waivers.specs.Searching.{Choice}
 use Rattle.cases.specs.declared.call.Call.{Call}
 use Rattle.cases.specs.declared.call.Call.TheVariants.{Open, Grant, Lapse, Put, Withdraw, Carry, Order, Cancel, Find, Draw, Sign, Tear}
 use Rattle.cases.specs.declared.call.Answer.{Answer}
@@ -17,7 +16,6 @@ use Rattle.cases.specs.Plain.{Plain, drawing}
 use Rattle.cases.specs.State.{State, fresh}
 use Rattle.cases.specs.Replay.{refused, turned_down, met, after_calls}
 use Rattle.cases.specs.Finding.{zero_row}
-use Rattle.cases.specs.Making.{Makes}
 
 -- What find's end says of the plain case p that it met. R says which sets are in reach, m is the decider's mark, gs are the groups
 -- that are listed then, and b is the book that is handed back.
@@ -84,20 +82,19 @@ Promised R m p Draw a p' gs = Draws p a
 Promised R m p (Sign number s) a p' gs = Signs a p'
 Promised R m p (Tear number s) a p' gs = Plainly a
 
--- One call x and its answer a, on the program's case k, which is k' then. The plain case was p before it and is p' after it: the
--- program's case holds its state, refuses as it does, and what is promised of it holds. And the call did what its own contract says.
-pub record Keeps (c : Choice) (R : Task → ℕ → ℕ → ℕ → Type 0) (m : ℕ) (p p' : Plain) (k : State) (x : Call) (a : Answer) (k' : State) : Type 0 where
-  pub state : k'.plain ≡ p'
+-- One call x and its answer a: the plain case was p before it and is p' after it, and k is the program's case then. The program's case
+-- holds the plain case's state, it refused as the plain case does, and what the call promises holds.
+pub record Keeps (R : Task → ℕ → ℕ → ℕ → Type 0) (m : ℕ) (p p' : Plain) (x : Call) (a : Answer) (k : State) : Type 0 where
+  pub state : k.plain ≡ p'
   pub refusal : met a ≡ refused p x
-  pub promise : Promised R m p x a p' k'.groups
-  pub call : Makes c R m k x a k'
+  pub promise : Promised R m p x a p' k.groups
 
--- The calls with their answers, first to last, lead from a fresh case to the program's case k'. The plain case is what the calls so far
--- make of a fresh one.
-pub data Runs (c : Choice) (R : Task → ℕ → ℕ → ℕ → Type 0) (m : ℕ) : List (Call × Answer) → State → Type 0 where
-  none : Runs c R m [] fresh
-  more : {es : List (Call × Answer)} {k : State} → Runs c R m es k → (x : Call) (a : Answer) (k' : State)
-      → Keeps c R m (after_calls es) (after_calls (es ++ (x, a) ∷ [])) k x a k' → Runs c R m (es ++ (x, a) ∷ []) k'
+-- The calls with their answers, first to last, lead from a fresh case to the program's case k, and each kept the law. The plain case is
+-- what the calls so far make of a fresh one.
+pub data Runs (R : Task → ℕ → ℕ → ℕ → Type 0) (m : ℕ) : List (Call × Answer) → State → Type 0 where
+  none : Runs R m [] fresh
+  more : {es : List (Call × Answer)} {k : State} → Runs R m es k → (x : Call) (a : Answer) (k' : State)
+      → Keeps R m (after_calls es) (after_calls (es ++ (x, a) ∷ [])) x a k' → Runs R m (es ++ (x, a) ∷ []) k'
 
 -- each call beside its answer
 abbrev pub paired : List Call → List Answer → List (Call × Answer)
@@ -105,8 +102,8 @@ paired [] ws = []
 paired (x ∷ xs) [] = []
 paired (x ∷ xs) (a ∷ ws) = (x, a) ∷ paired xs ws
 
--- The law: every call was answered, after each the case held the plain case's state and what it promised, and so it does at the end.
-pub record Law (c : Choice) (R : Task → ℕ → ℕ → ℕ → Type 0) (m : ℕ) (calls : List Call) (answers : List Answer) (last : State) : Type 0 where
+-- The law: every call was answered, each kept the law on the plain case as it then stood, and the case at the end holds the plain case's state.
+pub record Law (R : Task → ℕ → ℕ → ℕ → Type 0) (m : ℕ) (calls : List Call) (answers : List Answer) (last : State) : Type 0 where
   pub answered : length answers ≡ length calls
-  pub runs : Runs c R m (paired calls answers) last
+  pub runs : Runs R m (paired calls answers) last
   pub replayed : last.plain ≡ after_calls (paired calls answers)

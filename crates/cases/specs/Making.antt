@@ -1,5 +1,5 @@
--- What making one call on a case comes to, by the contracts of the single calls.
-use Rattle.std.specs.Prelude.{◌≡◌, ℕ, List, length, vec_items}
+-- What calls on a case come to, by the contracts of the single calls: one call, and a list of them.
+use Rattle.std.specs.Prelude.{◌≡◌, ℕ, List, [], ◌∷◌, ◌++◌, length, vec_items}
 use Rattle.rules.specs.Planning.{Task}
 use Rattle.rules.specs.Refusals.{after}
 use Rattle.deciders.specs.declared.row.Row.{Row}
@@ -10,7 +10,7 @@ use Rattle.cases.specs.declared.call.Call.TheVariants.{Open, Grant, Lapse, Put, 
 use Rattle.cases.specs.declared.call.Answer.{Answer}
 use Rattle.cases.specs.declared.call.Answer.TheVariants.{Done, Found, Drawn}
 use Rattle.cases.specs.Plain.{opening, naming, putting, ordering, withdrawing, carrying, seeking, drawing, deciding}
-use Rattle.cases.specs.State.{State, known_of, opened, filled, granted, lapsed, ordered, cancelled, withdrawn, carried, drawn, signed, torn}
+use Rattle.cases.specs.State.{State, fresh, known_of, opened, filled, granted, lapsed, ordered, cancelled, withdrawn, carried, drawn, signed, torn}
 use Rattle.cases.specs.Finding.{Finds}
 
 -- a find on the sheet s and the book b
@@ -35,3 +35,9 @@ Makes c R m k (Find s b) a k' = Searched c R m k (vec_items s) (vec_items b) a k
 Makes c R m k Draw a k' = (a ≡ Drawn (drawing k.plain)) × (k' ≡ drawn (drawing k.plain) k)
 Makes c R m k (Sign number s) a k' = (a ≡ Done (deciding k.plain number s)) × (k' ≡ after (deciding k.plain number s) (signed s) k)
 Makes c R m k (Tear number s) a k' = (a ≡ Done (deciding k.plain number s)) × (k' ≡ after (deciding k.plain number s) torn k)
+
+-- the calls with their answers, first to last, lead from a fresh case to the case k, and each did what its own contract says
+pub data Made (c : Choice) (R : Task → ℕ → ℕ → ℕ → Type 0) (m : ℕ) : List (Call × Answer) → State → Type 0 where
+  unmade : Made c R m [] fresh
+  then : {es : List (Call × Answer)} {k : State} → Made c R m es k → (x : Call) (a : Answer) (k' : State)
+      → Makes c R m k x a k' → Made c R m (es ++ (x, a) ∷ []) k'

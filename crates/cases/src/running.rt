@@ -1,11 +1,11 @@
 //! Lists of calls, made one after another on a fresh case.
 
-ghost use Rattle.std.specs.Prelude.{◌≡◌, ℕ, Ok, Err, MatchResult};
+ghost use Rattle.std.specs.Prelude.{◌≡◌, ℕ, Ok, Err, IfOk, MatchResult};
 ghost use Rattle.waivers.specs.Reaching.{Same};
 ghost use Rattle.cases.specs.Plain.{drawing};
 ghost use Rattle.cases.specs.State.{view, drawn};
-ghost use Rattle.cases.specs.Making.{Makes};
-ghost use Rattle.cases.specs.Law.{Law};
+ghost use Rattle.cases.specs.Making.{Makes, Made};
+ghost use Rattle.cases.specs.Law.{Law, paired};
 
 use crate::call::{Answer, Call};
 use crate::case::Case;
@@ -72,7 +72,8 @@ fn make<D: Decider, P: Picker>(case: &mut Case, decider: &mut D, picker: &P, cal
 
 /// Makes the calls in turn on a fresh case, refused or not, and hands back the answers, with the buffers of every find, and the case.
 ///
-/// All memory is reserved before the first call. Where there is none, no call is made, and the list is handed back.
+/// All memory is reserved before the first call. Where there is none, no call is made, and the list is handed back. Whether there is, no
+/// contract says.
 pub fn run<D: Decider, P: Picker>(
     heap: Global,
     decider: &mut D,
@@ -80,8 +81,9 @@ pub fn run<D: Decider, P: Picker>(
     calls: Vec<Call>,
 ) -> Result<(Vec<Answer>, Case), AllocFailed<Vec<Call>>>
     ensures law { MatchResult result
-        (λ v. Law (P.choice picker.now) (D.reach decider.old) D.signed calls.items v.0.items (view v.1))
+        (λ v. Law (D.reach decider.old) D.signed calls.items v.0.items (view v.1))
         (λ e. (e.value ≡ calls) × (decider.new ≡ decider.old)) }
+    ensures made { IfOk result (λ v. Made (P.choice picker.now) (D.reach decider.old) D.signed (paired calls.items v.0.items) (view v.1)) }
     ensures same { Same (D.reach decider.old) (D.reach decider.new) }
 {
     let (Ok(mut case), Ok(mut answers)) = (Case::new(heap), Vec::with_capacity(heap, calls.len()))
