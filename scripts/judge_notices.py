@@ -2,8 +2,8 @@
 """Does the judge notice wrong finders, and nothing else?
 
 It runs wrong finders (wrong_finders.py), each with one planted bug, on an example file and then on random case files
-until the judge (judge.py) calls a report of each wrong. On the same files the judge has to accept the program itself, the plain finder without a
-bug (plain_finder.py), and a finder that answers other plans, which the rules leave free.
+until the judge (judge.py) calls a report of each wrong. On the same files the judge has to accept the program itself,
+the plain finder without a bug (plain_finder.py), and a finder that answers other plans, which the rules leave free.
 
     scripts/judge_notices.py PROGRAM --seed 1 --files 1000
 

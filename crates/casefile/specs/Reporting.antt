@@ -45,7 +45,8 @@ pub record Read (c : Choice) (R : ℕ → Type 0) (m : ℕ) (text : List ℕ) (p
   pub asks : Asks c R m line kind k answer k' s b s' b'
   pub printed : Printed (reply_bytes kind l' answer b') buf buf' (Some n)
 
--- What reading the next line of the text comes to. A text that is too long has one report line, of no kind and no line. Reading stands at position p after l lines, and at p' after l' lines then;
+-- What reading the next line of the text comes to; a text that is too long has one report line, of no kind and no line.
+-- Reading stands at position p after l lines, and at p' after l' lines then;
 -- k, s, b and buf are case, sheet, plan book and report buffer before, and with a prime after.
 abbrev pub ReadsNext : Choice → (ℕ → Type 0) → ℕ → List ℕ → ℕ → ℕ → ℕ → ℕ → State → State → List Row → List Row → List ℕ → List ℕ → List ℕ → List ℕ → Result (Option ℕ) ReadFault → Type 0
 ReadsNext c R m text p l p' l' k k' s s' b b' buf buf' (Err BufferTooShort) =

@@ -63,7 +63,7 @@ seeking p rows places =
     (cond (rows == 0 || nat_lt 4096 rows) (Err SheetSize)
     (cond (nat_lt places rows || nat_lt 4096 places) (Err BookSize) (Ok tt))))
 
--- what a finding gives a slip for: a set that is not empty
+-- a slip of a case with this number for a finding: number and set; an empty finding, or none, is refused
 abbrev pub worth_drawing : Option ℕ → ℕ → Result (ℕ × ℕ) Refusal
 worth_drawing None number = Err NoFinding
 worth_drawing (Some s) number = cond (s == 0) (Err NoFinding) (Ok (number, s))

@@ -11,7 +11,7 @@ use crate::slip::Slip;
 use rules::{Facts, Refusal};
 
 impl Case {
-    /// Draws a slip for the finding. While it is out, the case refuses every other call.
+    /// Draws a slip for the finding. While it is out, the case refuses every call but sign, tear and the plan check.
     pub fn draw(&mut self) -> Result<Slip, Refusal>
         ensures answer { slip_data result ≡ drawing (view self.old).plain }
         ensures after { view self.new ≡ drawn (drawing (view self.old).plain) (view self.old) }

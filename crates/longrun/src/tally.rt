@@ -2,13 +2,13 @@
 
 use std::io;
 
-/// The names of the calls, and a counter of each for each refusal; 0 counts what was accepted.
+/// The names of the calls.
 const NAMES: [&str; 12] = [
     "open", "grant", "lapse", "put", "withdraw", "carry", "order", "cancel", "find", "draw",
     "sign", "tear",
 ];
 
-/// Counts of the answers.
+/// For each name a counter of each refusal, by its number; 0 counts what was accepted.
 #[derive(Clone, Copy)]
 pub struct Tally {
     counts: [[u32; 23]; 12],

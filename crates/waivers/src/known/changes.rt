@@ -57,7 +57,7 @@ impl KnownGroups {
         if !is_subset(standing | order, facts_below(n)) {
             return Err(Refusal::UnknownFact);
         }
-        self.groups.clear();
+        self.groups.clear(); // a case without facts knows no groups; this only says so
         self.problem.n = n;
         self.problem.standing.facts = standing;
         self.problem.order = order;
