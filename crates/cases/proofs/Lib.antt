@@ -1,2 +1,3 @@
 pub mod Finished
 pub mod Made
+pub mod Staying

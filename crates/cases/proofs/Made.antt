@@ -400,7 +400,7 @@ paired_more (y ∷ xs) [] x a e = absurd (omega arith)
 paired_more (y ∷ xs) (w ∷ ws) x a e = let f : length ws ≡ length xs = omega arith in ap (λ zs. (y, w) ∷ zs) (paired_more xs ws x a f)
 
 -- one call more is fed to what the calls before have made
-replay_more : (p : Plain) (es : List (Call × Answer)) (x : Call) (a : Answer) → replay p (es ++ (x, a) ∷ []) ≡ next (replay p es) x a
+pub replay_more : (p : Plain) (es : List (Call × Answer)) (x : Call) (a : Answer) → replay p (es ++ (x, a) ∷ []) ≡ next (replay p es) x a
 replay_more p [] x a = refl
 replay_more p ((y, b) ∷ es) x a = replay_more (next p y b) es x a
 

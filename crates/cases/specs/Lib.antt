@@ -7,3 +7,4 @@ pub mod Finding
 pub mod Making
 pub mod Replay
 pub mod Law
+pub mod Theorems

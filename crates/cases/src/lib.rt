@@ -9,8 +9,10 @@ mod find;
 mod running;
 mod slip;
 mod slips;
+mod theorems;
 
 pub use call::{Answer, Call};
 pub use case::Case;
 pub use running::run;
 pub use slip::Slip;
+pub use theorems::slips_stay_as_drawn;
