@@ -45,7 +45,7 @@ fn hash(set: Facts) -> usize
 }
 
 impl Index {
-    /// Forgets all rows. Nothing is cleared until no numbers are left, after a million listings.
+    /// Forgets all rows. Nothing is cleared until no numbers are left, after a million listings. Which number the next row gets is free.
     pub(crate) fn clear(&mut self)
         ensures { Indexed self.new.start self.new.heads self.new.links [] }
     {

@@ -26,12 +26,15 @@ pub trait Direction {
     // the entry is wanted
     ghost wants: { Struck → ℕ → Type 0 };
 
+    /// The entry to start from.
     fn start(struck: &StruckOut) -> Facts
         ensures { result ≡ start_of struck.now };
 
+    /// What a step makes of an entry, if anything.
     fn successor(step: &Step, entry: Facts) -> Option<Facts>
         ensures { result ≡ makes step.now entry };
 
+    /// Whether the search may end with this entry.
     fn is_wanted(struck: &StruckOut, entry: Facts) -> bool
         ensures holds { T result → wants struck.now entry }
         ensures fails { wants struck.now entry → T result };
