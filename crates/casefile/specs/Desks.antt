@@ -2,7 +2,7 @@
 use Rattle.std.specs.Prelude.{◌≡◌, ℕ, List, length, Option, Result}
 use Rattle.rules.specs.Planning.{Task}
 use Rattle.waivers.specs.Searching.{Choice}
-use Rattle.waivers.specs.Reaching.{Same}
+use Rattle.deciders.specs.Reaching.{Same}
 use Rattle.frames.specs.declared.frame.Frame.{Frame}
 use Rattle.cases.specs.State.{view}
 use Rattle.casefile.specs.declared.fault.LineFault.{LineFault}

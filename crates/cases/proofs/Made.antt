@@ -19,7 +19,7 @@ use Rattle.deciders.specs.declared.answer.DeciderFault.TheVariants.{BeyondReach}
 use Rattle.waivers.specs.declared.fault.FinderFault.{FinderFault}
 use Rattle.waivers.specs.declared.fault.FinderFault.TheVariants.{Case, SheetSize, BookSize, NoWaiver, Decider, ListFull}
 use Rattle.waivers.specs.Known.{Listed, waives}
-use Rattle.waivers.specs.Reaching.{Same}
+use Rattle.deciders.specs.Reaching.{Same}
 use Rattle.waivers.specs.Searching.{Choice}
 use Rattle.waivers.proofs.Searches.{stopped_on, solved_on}
 use Rattle.cases.specs.declared.call.Call.{Call}

@@ -2,7 +2,7 @@
 
 ghost use Rattle.std.specs.Prelude.{◌≡◌, ℕ, ◌-◌, ◌<◌, ◌≤◌, ◌++◌, length, take, replicate};
 ghost use Rattle.waivers.specs.Known.{Listed};
-ghost use Rattle.waivers.specs.Reaching.{Same};
+ghost use Rattle.deciders.specs.Reaching.{Same};
 ghost use Rattle.cases.specs.Plain.{seeking};
 ghost use Rattle.cases.specs.State.{view, known_of};
 ghost use Rattle.cases.specs.Finding.{zero_row, Finds};

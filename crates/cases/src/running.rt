@@ -1,7 +1,7 @@
 //! Lists of calls, made one after another on a fresh case.
 
 ghost use Rattle.std.specs.Prelude.{◌≡◌, ℕ, Ok, Err, IfOk, MatchResult};
-ghost use Rattle.waivers.specs.Reaching.{Same};
+ghost use Rattle.deciders.specs.Reaching.{Same};
 ghost use Rattle.cases.specs.Plain.{drawing};
 ghost use Rattle.cases.specs.State.{view, drawn};
 ghost use Rattle.cases.specs.Making.{Makes, Made};

@@ -2,6 +2,7 @@
 pub mod Answers
 pub mod Closures
 pub mod Reaches
+pub mod Reaching
 pub mod Theorems
 pub mod Rows
 pub mod Chains

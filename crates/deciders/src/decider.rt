@@ -3,6 +3,7 @@
 ghost use Rattle.std.specs.Prelude.{◌≡◌, ℕ, length};
 ghost use Rattle.rules.specs.Planning.{Task, task};
 ghost use Rattle.deciders.specs.Answers.{Sized, Answers};
+ghost use Rattle.deciders.specs.Reaching.{Same};
 
 use crate::answer::{DeciderFault, Verdict};
 use crate::row::Row;
@@ -32,7 +33,7 @@ pub trait Decider {
         book: &mut [u8],
     ) -> Result<Verdict, DeciderFault>
         ensures answer { Answers (reach self.old (task problem.now) strike (length sheet.old) (length book.old)) signed (task problem.now) strike (length sheet.old) book.old book.new result }
-        ensures same { (p : Task) (x m b : ℕ) → (reach self.new p x m b → reach self.old p x m b) × (reach self.old p x m b → reach self.new p x m b) };
+        ensures same { Same (reach self.new) (reach self.old) };
 
     // what breaks a size limit is outside every reach
     ghost within: { (d : Self) (p : Task) (x m b : ℕ) → reach d p x m b → Sized m b };

@@ -12,12 +12,12 @@ use rules::Facts;
 
 /// Why a search has no answer: its sheet or its book breaks the limits, or an entry found no free row.
 #[derive(Clone, Copy, Debug)]
-pub struct Unsettled;
+pub(crate) struct Unsettled;
 
 /// The entries on the first rows of a sheet, with an index over them, so that it costs little to ask whether a set is listed.
 // Kept: rows and how many are filled, since the sheet is a slice of the caller's, a rule of the project.
 #[derive(Drop)]
-pub struct Listing<'a> {
+pub(crate) struct Listing<'a> {
     rows: &'a mut [Row],
     count: usize,
     index: &'a mut Index,

@@ -16,7 +16,7 @@ use crate::struck::StruckOut;
 use rules::{Facts, Problem, Step};
 
 /// A direction of search: where it starts, what a step makes of an entry, and which entries are wanted.
-pub trait Direction {
+pub(crate) trait Direction {
     // what a step makes of an entry
     ghost makes: { Successor };
 
@@ -100,7 +100,7 @@ impl<'a> Listing<'a> {
 
 /// A search with its memory, which is kept from query to query, so that none has to make it anew.
 #[derive(Default, Drop)]
-pub struct Search {
+pub(crate) struct Search {
     struck: StruckOut,
     index: Index,
 }

@@ -9,14 +9,14 @@ use rules::{Facts, Problem, Step, difference};
 
 /// A step that is left once facts are struck out, with its place.
 #[derive(Clone, Copy, Default)]
-pub struct Action {
+pub(crate) struct Action {
     pub step: Step,
     pub place: u8,
 }
 
 /// What is left of a problem once facts are struck out: what stands, what is ordered, and the steps, by rising place.
 #[derive(Default, Drop)]
-pub struct StruckOut {
+pub(crate) struct StruckOut {
     pub standing: Facts,
     pub order: Facts,
     pub actions: ArrayVec<Action, 64>,

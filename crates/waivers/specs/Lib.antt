@@ -1,7 +1,6 @@
 -- A problem with its known groups, and what the search for a smallest good set says.
 pub mod Faults
 pub mod Known
-pub mod Reaching
 pub mod Growing
 pub mod Noting
 pub mod Searching

@@ -1,6 +1,6 @@
 use Rattle.std.proofs.Common.{◌+◌, ◌≤◌, length, vec_items, vec_capacity}
 use Rattle.std.specs.Vec.Iter.{into_iter_len}
-use Rattle.waivers.specs.Reaching.{Same}
+use Rattle.deciders.specs.Reaching.{Same}
 use Rattle.cases.specs.State.{view}
 use Rattle.cases.proofs.Made.{Running}
 use Rattle.cases.proofs.running.run.Given as goal
