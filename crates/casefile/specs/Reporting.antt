@@ -9,6 +9,7 @@ use Rattle.casefile.specs.declared.fault.LineFault.{LineFault}
 use Rattle.casefile.specs.declared.fault.LineFault.TheVariants as fault
 use Rattle.casefile.specs.declared.serving.Reply.{Reply}
 use Rattle.casefile.specs.declared.serving.Reply.TheVariants.{Done, Found}
+use Rattle.casefile.specs.declared.reading.Reading.{Reading}
 use Rattle.casefile.specs.declared.reading.next.ReadFault.{ReadFault}
 use Rattle.casefile.specs.declared.reading.next.ReadFault.TheVariants.{TextTooLong, BufferTooShort}
 use Rattle.casefile.specs.Faults.{fault_bytes}
@@ -25,6 +26,10 @@ abbrev pub Fits : Result Reply LineFault → List ℕ → Type 0
 Fits (Ok Done) book = Unit {0}
 Fits (Ok (Found s count n)) book = (n ≤ length book) × (n < 4096)
 Fits (Err e) book = Unit {0}
+
+-- reading stands at the beginning of a text
+abbrev pub AtStart : Reading → Type 0
+AtStart at = (at.position ≡ 0) × (at.lines ≡ 0)
 
 -- nothing changes: reading stands where it stood, and case, sheet, plan book and report buffer stay
 pub record Unchanged (p l p' l' : ℕ) (k k' : State) (s s' : List Row) (b b' buf buf' : List ℕ) : Type 0 where

@@ -2,7 +2,7 @@
 use Rattle.std.specs.Prelude.{ℕ, true, false, List, [], Ok, Err, Result}
 use Rattle.rules.specs.declared.step.Step.{Step}
 use Rattle.rules.specs.declared.refusal.Refusal.{Refusal}
-use Rattle.waivers.specs.Known.{Known, known, losing, puts, withdraws, grants, lapses, carries, orders, cancels}
+use Rattle.waivers.specs.Known.{Known, known, Reserved, losing, puts, withdraws, grants, lapses, carries, orders, cancels}
 use Rattle.cases.specs.declared.case.Case.{Case}
 use Rattle.cases.specs.Plain.{Plain, unopened, opened_as, changed, with_slip, signed_for}
 
@@ -17,6 +17,10 @@ view k = record {
   plain = record { number = k.number; task = (known k.known).task; finding = k.finding; slip_out = k.slip_out };
   groups = (known k.known).groups;
 }
+
+-- the memory for all groups that a case may list is at hand
+abbrev pub HasRoom : Case → Type 0
+HasRoom k = Reserved k.known
 
 -- a fresh case is unopened and lists no group
 abbrev pub fresh : State

@@ -3,9 +3,8 @@
 ghost use Rattle.std.specs.Prelude.{◌≡◌, cond, Ok, Err, IfOk, ◌==◌};
 ghost use Rattle.rules.specs.declared.refusal.Refusal.TheVariants.{Unopened};
 ghost use Rattle.rules.specs.Refusals.{after};
-ghost use Rattle.waivers.specs.Known.{Reserved};
 ghost use Rattle.cases.specs.Plain.{usable, names, naming, opening};
-ghost use Rattle.cases.specs.State.{view, fresh, opened};
+ghost use Rattle.cases.specs.State.{view, fresh, HasRoom, opened};
 ghost use Rattle.cases.specs.Checks.{PlanChecked};
 
 use rules::{Facts, PlanCheck, Refusal, facts_below, is_subset};
@@ -28,7 +27,7 @@ impl Case {
     /// A fresh case, unopened. It reserves the room for its group list, so that no later call needs memory.
     pub fn new(heap: Global) -> Result<Case, AllocError>
         ensures fresh { IfOk result (λ k. view k ≡ fresh) }
-        ensures room { IfOk result (λ k. Reserved k.known) }
+        ensures room { IfOk result HasRoom }
     {
         let known = KnownGroups::new(heap)?;
         Ok(Case {

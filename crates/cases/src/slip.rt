@@ -1,6 +1,7 @@
 //! Slips: a waiver on paper, which has to be signed or torn.
 
 ghost use Rattle.std.specs.Prelude.{◌≡◌};
+ghost use Rattle.cases.specs.Slips.{number_on, set_on};
 
 use rules::Facts;
 
@@ -13,14 +14,14 @@ pub struct Slip {
 impl Slip {
     /// The number of the case that it was drawn from.
     pub fn number(&self) -> u32
-        ensures { result ≡ self.now.number }
+        ensures { result ≡ number_on self.now }
     {
         self.number
     }
 
     /// The set that it waives once it is signed.
     pub fn set(&self) -> Facts
-        ensures { result ≡ self.now.«set» }
+        ensures { result ≡ set_on self.now }
     {
         self.set
     }

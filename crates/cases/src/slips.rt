@@ -4,7 +4,7 @@ ghost use Rattle.std.specs.Prelude.{◌≡◌, Ok, Err, MatchResult};
 ghost use Rattle.rules.specs.Refusals.{after};
 ghost use Rattle.cases.specs.Plain.{drawing, given};
 ghost use Rattle.cases.specs.State.{view, drawn, signed, torn, drawn_and_signed};
-ghost use Rattle.cases.specs.Slips.{slip_data, deciding_on, HandsBack};
+ghost use Rattle.cases.specs.Slips.{set_on, slip_data, deciding_on, HandsBack};
 
 use crate::case::Case;
 use crate::slip::Slip;
@@ -40,7 +40,7 @@ impl Case {
 
     /// Uses up the slip that is out, and says its set. Any other slip is handed back.
     fn use_up(&self, slip: Slip) -> Result<Facts, (Slip, Refusal)>
-        ensures { MatchResult result (λ s. (s ≡ slip.«set») × (deciding_on (view self.now).plain slip ≡ Ok tt)) (λ e. (e.0 ≡ slip) × (deciding_on (view self.now).plain slip ≡ Err e.1)) }
+        ensures { MatchResult result (λ s. (s ≡ set_on slip) × (deciding_on (view self.now).plain slip ≡ Ok tt)) (λ e. (e.0 ≡ slip) × (deciding_on (view self.now).plain slip ≡ Err e.1)) }
     {
         match self.check_slip(&slip) {
             Ok(()) => {
@@ -73,7 +73,7 @@ impl Case {
     /// Signs a slip: its set is waived, the finding is forgotten and the group list emptied. A refusal hands the slip back.
     pub fn sign(&mut self, slip: Slip) -> Result<(), (Slip, Refusal)>
         ensures answer { HandsBack slip (deciding_on (view self.old).plain slip) result }
-        ensures after { view self.new ≡ after (deciding_on (view self.old).plain slip) (signed slip.«set») (view self.old) }
+        ensures after { view self.new ≡ after (deciding_on (view self.old).plain slip) (signed (set_on slip)) (view self.old) }
     {
         let set = self.use_up(slip)?;
         self.waive(set);

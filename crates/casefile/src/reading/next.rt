@@ -1,8 +1,7 @@
 //! Reading a case file line by line.
 
-ghost use Rattle.std.specs.Prelude.{◌≡◌};
 ghost use Rattle.frames.specs.Reports.{Printed};
-ghost use Rattle.casefile.specs.Reporting.{reply_bytes, Fits};
+ghost use Rattle.casefile.specs.Reporting.{reply_bytes, AtStart, Fits};
 ghost use Rattle.casefile.specs.Desks.{KeepsLoans, KeepsReach, AsksAt, ReadsAt};
 
 use crate::fault::LineFault;
@@ -81,7 +80,7 @@ impl<D: Decider, P: Picker> Desk<'_, D, P> {
 impl Reading {
     /// At the beginning of a text.
     pub fn start() -> Reading
-        ensures { (result.position ≡ 0) × (result.lines ≡ 0) }
+        ensures { AtStart result }
     {
         Reading {
             position: 0,
