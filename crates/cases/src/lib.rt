@@ -6,6 +6,7 @@ mod call;
 mod calls;
 mod case;
 mod find;
+mod opening;
 mod running;
 mod slip;
 mod slips;
@@ -13,6 +14,6 @@ mod theorems;
 
 pub use call::{Answer, Call};
 pub use case::Case;
-pub use running::run;
-pub use slip::Slip;
-pub use theorems::slips_stay_as_drawn;
+pub use running::{Outcome, run};
+pub use slip::{Slip, SlipData};
+pub use theorems::{calls_keep_the_law, slips_stay_as_drawn};

@@ -15,5 +15,8 @@ pub record Indexed (start : ℕ) (heads links l : List ℕ) : Type 0 where
   pub all : (i : ℕ) → i < length l → i < link start (slice_index heads (hash_of (slice_index l i)))
   pub alike : (h i : ℕ) → link start (slice_index heads h) ≡ i + 1 → hash_of (slice_index l i) ≡ h
   pub falls : (i : ℕ) → i < length l → link start (slice_index links i) ≤ i
-  pub rest : (i j : ℕ) → j < i → i < length l → hash_of (slice_index l j) ≡ hash_of (slice_index l i) → j < link start (slice_index links i)
-  pub alike_next : (i j : ℕ) → i < length l → link start (slice_index links i) ≡ j + 1 → hash_of (slice_index l j) ≡ hash_of (slice_index l i)
+  pub rest : (i j : ℕ) → j < i → i < length l
+      → hash_of (slice_index l j) ≡ hash_of (slice_index l i) → j < link start (slice_index links i)
+  pub alike_next : (i j : ℕ) → i < length l
+      → link start (slice_index links i) ≡ j + 1
+      → hash_of (slice_index l j) ≡ hash_of (slice_index l i)

@@ -24,4 +24,5 @@ pub record Sound (B : Row → Row → Type 0) (start : ℕ) (sheet : List Row) (
 -- reading the places from the row j on, each at a row and then on to the row that it came from, one comes to the row i
 abbrev pub Climbs : List Row → ℕ → List ℕ → ℕ → Type 0
 Climbs sheet j [] i = j ≡ i
-Climbs sheet j (p ∷ l) i = (0 < j) × ((row sheet j).place ≡ p) × Climbs sheet (row sheet j).parent l i
+Climbs sheet j (p ∷ l) i =
+    (0 < j) × ((row sheet j).place ≡ p) × Climbs sheet (row sheet j).parent l i

@@ -4,13 +4,13 @@
 
 ghost use Rattle.std.specs.Prelude.{◌≡◌, ◌≤◌, take, vec_len, IfOk, IfSome};
 
-use casefile::{Desk, MAX_TEXT, MIN_REPORT, ReadFault, Reading};
+use casefile::{Desk, MAX_TEXT, MIN_REPORT, serve_text};
 use cases::Case;
 use deciders::{Forward, MAX_PLACES, MAX_ROWS, Row, Screen};
 use pickers::CountingPicker;
 use std::alloc::Global;
 use std::io;
-use std::io::{BufWriter, Read, Write};
+use std::io::{BufWriter, Read};
 
 /// A text that fills this much is too long, however it goes on.
 const ROOM: usize = MAX_TEXT + 1;
@@ -18,7 +18,8 @@ const ROOM: usize = MAX_TEXT + 1;
 /// The bytes of the input, of which more than a text may have are not read.
 fn read_text<R: Read + Drop>(heap: Global, input: R) -> io::Result<Vec<u8>>
     ensures bounded { IfOk result (λ text. vec_len text ≤ 16385) }
-    ensures bytes { IfOk result (λ text. IfSome (R.remaining input) (λ bytes. text.items ≡ take 16385 bytes)) }
+    ensures bytes { IfOk result (λ text.
+        IfSome (R.remaining input) (λ bytes. text.items ≡ take 16385 bytes)) }
 {
     let mut text = Vec::new(heap);
     input.take(ROOM as u64).read_to_end(&mut text)?;
@@ -43,19 +44,7 @@ pub fn serve_input(rt: &HostRuntime) -> anyhow::Result<()> {
         sheet: &mut sheet,
         book: &mut book,
     };
-    let mut reading = Reading::start();
     let mut output = BufWriter::new(heap, rt.stdout())?;
-    // Each line takes a byte at least, so this many turns come past the last line.
-    for _ in 0..ROOM {
-        match reading.next(&text, &mut desk, &mut buffer) {
-            Ok(Some(length)) => output.write_all(&buffer[0..length])?,
-            Err(ReadFault::TextTooLong(length)) => {
-                output.write_all(&buffer[0..length])?;
-                break;
-            }
-            Ok(None) | Err(ReadFault::BufferTooShort) => break,
-        }
-    }
-    output.flush()?;
+    serve_text(&text, &mut desk, &mut buffer, &mut output)?;
     Ok(())
 }

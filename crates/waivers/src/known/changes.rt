@@ -4,13 +4,13 @@ ghost use Rattle.std.specs.Prelude.{◌≡◌, length, IfOk};
 ghost use Rattle.rules.specs.Planning.{task, strike as strike_out};
 ghost use Rattle.rules.specs.Checking.{Checks};
 ghost use Rattle.rules.specs.Refusals.{after};
-ghost use Rattle.rules.specs.Places.{put_refusal};
-ghost use Rattle.waivers.specs.Known.{known, nothing, Reserved, open_refusal, opens, puts, anew, Listed};
+ghost use Rattle.waivers.specs.Known.{known, nothing, Reserved, Listed};
+ghost use Rattle.waivers.specs.Changes.{names_refusal, refusal_of, changed, open_refusal, opened, waived, anew};
 
+use crate::change::{Change, Fate, check_names};
 use crate::known::{KnownGroups, MAX_GROUPS};
-use rules::{
-    Facts, PlanCheck, Problem, Refusal, Standing, Step, StepTable, facts_below, is_subset,
-};
+use crate::lose::lose;
+use rules::{Facts, PlanCheck, Problem, Refusal, Standing, StepTable, facts_below, is_subset};
 use std::alloc::{AllocError, Global};
 
 impl KnownGroups {
@@ -45,11 +45,19 @@ impl KnownGroups {
         self.groups.as_slice()
     }
 
+    /// Refuses a set that names a fact at or above the number of facts.
+    pub fn check_names(&self, set: Facts) -> Result<(), Refusal>
+        ensures { result ≡ names_refusal (known self.now).task «set» }
+    {
+        check_names(&self.problem, set)
+    }
+
     /// Sets the number of facts, the standing and the order; no group is known then.
     // Kept: three arguments; a struct of them would be made for this one call, and taken apart in it.
     pub fn open(&mut self, n: u8, standing: Facts, order: Facts) -> Result<(), Refusal>
         ensures answer { result ≡ open_refusal n standing order }
-        ensures after { known self.new ≡ after result (anew (opens n standing order)) (known self.old) }
+        ensures after { known self.new
+            ≡ after result (anew (opened n standing order)) (known self.old) }
     {
         if n == 0 || n > 32 {
             return Err(Refusal::FactCount);
@@ -64,14 +72,26 @@ impl KnownGroups {
         Ok(())
     }
 
-    /// Puts a step into an empty place. A new step may make a group solvable, so the list is emptied.
-    pub fn put(&mut self, place: u8, step: Step) -> Result<(), Refusal>
-        ensures answer { result ≡ put_refusal (known self.old).task.steps place step }
-        ensures after { known self.new ≡ after result (anew (puts place step)) (known self.old) }
+    /// Makes a change, or refuses it. Groups that may be solvable then are forgotten.
+    pub fn change(&mut self, change: Change) -> Result<(), Refusal>
+        ensures answer { result ≡ refusal_of (known self.old).task change }
+        ensures after { known self.new ≡ after result (changed change) (known self.old) }
     {
-        self.problem.table.put(place, step)?;
-        self.groups.clear(); // the new step may make a group solvable
+        change.make(&mut self.problem)?;
+        match change.fate() {
+            Fate::Emptied => self.groups.clear(),
+            Fate::Kept => {}
+            Fate::Losing(set) => lose(&mut self.groups, set),
+        }
         Ok(())
+    }
+
+    /// Waives facts for good. They go from every reading of the problem, so the list is emptied.
+    pub fn waive(&mut self, set: Facts)
+        ensures { known self.new ≡ anew (waived «set») (known self.old) }
+    {
+        self.groups.clear(); // waived facts are waivable no more, and what was good asks for nothing now
+        self.problem.waived |= set;
     }
 
     /// Whether the places are a plan with the facts of `strike` struck out, and if not, why.
