@@ -1,4 +1,4 @@
--- Reads of a text's lines, one after another.
+-- LinesRead of a text's lines, one after another.
 use Rattle.std.proofs.Common.{◌≡◌, ℕ, ◌-◌, ◌<◌, ◌≤◌, ◌⊎◌, inl, inr, List, [], ◌++◌, length, take, drop, Some, None, Ok, Err, Option, Result, refl, ap, ◌∙◌, subst, arith}
 use Rattle.std.proofs.Math.Seq.{take-append_seam}
 use Rattle.std.specs.Io.KnownBytes.{Keeps, Appends}
@@ -13,7 +13,7 @@ use Rattle.casefile.specs.declared.fault.ServeFault.{ServeFault}
 use Rattle.casefile.specs.declared.fault.ServeFault.TheVariants as serve_fault
 use Rattle.casefile.specs.Faults.{unread_bytes, reported_length}
 use Rattle.casefile.specs.Reporting.{Stage, Read, ReadsNext}
-use Rattle.casefile.specs.Chains.{Reads, none, more, Writes, Reports, ServesText}
+use Rattle.casefile.specs.Chains.{LinesRead, none, more, Writes, Reports, ServesText}
 
 -- a line takes a byte at least
 pub line_goes_on : (text line : List ℕ) (p q : ℕ) → LineAt text p line q → length text - q < length text - p
@@ -40,7 +40,7 @@ module _ {D : Type 0} (c : Choice) (reach : D → Task → ℕ → ℕ → ℕ �
   -- how far the lines of a text are read and reported: not at all, unless the buffer has room and the text is short
   pub record Progress (x y : Stage D) (out out' : Option (List ℕ)) : Type 0 where
     pub report : List ℕ
-    pub reads : Reads c reach m text x y report
+    pub reads : LinesRead c reach m text x y report
     pub writes : Appends out out' report
     pub begun : ((y ≡ x) × Keeps out out') ⊎ ((8209 ≤ room) × (length text ≤ 16384))
 
@@ -63,7 +63,7 @@ module _ {D : Type 0} (c : Choice) (reach : D → Task → ℕ → ℕ → ℕ �
   pub progress_unwritten
       : (x y z : Stage D) (out out' out'' : Option (List ℕ)) (bytes written : List ℕ) (e : ServeFault) → Progress x y out out' → 8209 ≤ room
       → Read c reach m text y z bytes → Writes written out' out'' (Err e) → ServesText c reach m text room x z out out'' (Err e)
-  progress_unwritten x y z out out' out'' bytes written (serve_fault.Read e) p enough read writes = absurd writes
+  progress_unwritten x y z out out' out'' bytes written (serve_fault.Unread e) p enough read writes = absurd writes
   progress_unwritten x y z out out' out'' bytes written (serve_fault.Output e) p enough read writes =
       (enough, (p.report ++ report_line bytes, more p.reads z bytes read))
 
@@ -87,7 +87,7 @@ module _ {D : Type 0} (c : Choice) (reach : D → Task → ℕ → ℕ → ℕ �
           → ServesText c reach m text room x z out out'' r
       too_long (Ok u) w at keeps =
           (omega arith, (report_line (unread_bytes TextTooLong), inr (many, at, refl), Keeps-appends out out' out'' _ keeps (subst (Appends out' out'') line w)))
-      too_long (Err (serve_fault.Read e)) w at keeps = absurd w
+      too_long (Err (serve_fault.Unread e)) w at keeps = absurd w
       too_long (Err (serve_fault.Output e)) w at keeps = (omega arith, ([], rw at none))
 
   pub progress_ended
@@ -99,6 +99,6 @@ module _ {D : Type 0} (c : Choice) (reach : D → Task → ℕ → ℕ → ℕ �
   -- where the report of a text can't be flushed
   pub unflushed
       : (x y : Stage D) (out out' : Option (List ℕ)) → ServesText c reach m text room x y out out' (Ok tt)
-      → (8209 ≤ room) × ((report : List ℕ) × Reads c reach m text x y report)
+      → (8209 ≤ room) × ((report : List ℕ) × LinesRead c reach m text x y report)
   unflushed x y out out' (enough, (report, inl (short, reads, past), writes)) = (enough, (report, reads))
   unflushed x y out out' (enough, (report, inr (many, same, line), writes)) = (enough, ([], rw same none))

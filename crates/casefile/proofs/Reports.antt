@@ -25,7 +25,7 @@ use Rattle.casefile.specs.declared.fault.LineFault.{LineFault}
 use Rattle.casefile.specs.declared.serving.Reply.{Reply}
 use Rattle.casefile.specs.declared.serving.Reply.TheVariants.{Done, Found}
 use Rattle.casefile.specs.Faults.{told}
-use Rattle.casefile.specs.Serving.{request_of, called, looked, Calls, Answers, Serves}
+use Rattle.casefile.specs.Serving.{request_of, called, looked, Calls, Replies, Serves}
 use Rattle.casefile.specs.Reporting.{reply_bytes, Fits}
 
 -- ---- the plan of an answer lies in the book
@@ -56,7 +56,7 @@ module _ (c : Choice) (R : ℕ → Type 0) (m : ℕ) (k k' : State) (s s' : List
   fits_calls : (C : Result Unit Refusal → State → Type 0) (r : Result Reply LineFault) → Calls C r k' s b s' b' → Fits r b'
   fits_calls C r h = rw h.reply (fits_called h.answer b')
 
-  fits_answered : (q : Request) (r : Result Reply LineFault) → Answers c R m q k r k' s b s' b' → Fits r b'
+  fits_answered : (q : Request) (r : Result Reply LineFault) → Replies c R m q k r k' s b s' b' → Fits r b'
   fits_answered (Open number n standing order) r h = fits_calls _ r h
   fits_answered (Change x) r h = fits_calls _ r h
   fits_answered Find r h = rw h.reply (fits_looked h.answer (refused k.plain (Finding s b)) refl h.finds)

@@ -13,32 +13,32 @@ use Rattle.casefile.specs.Reporting.{Stage, Read}
 
 -- reads of lines, each from the stage that the one before came to, lead from x to a stage, and
 -- these are their report lines, one after another
-pub data Reads {D : Type 0} (c : Choice) (reach : D → Task → ℕ → ℕ → ℕ → Type 0) (m : ℕ)
+pub data LinesRead {D : Type 0} (c : Choice) (reach : D → Task → ℕ → ℕ → ℕ → Type 0) (m : ℕ)
     (text : List ℕ) (x : Stage D) : Stage D → List ℕ → Type 0 where
-  none : Reads c reach m text x x []
-  more : {y : Stage D} {report : List ℕ} → Reads c reach m text x y report
+  none : LinesRead c reach m text x x []
+  more : {y : Stage D} {report : List ℕ} → LinesRead c reach m text x y report
       → (z : Stage D) (bytes : List ℕ) → Read c reach m text y z bytes
-      → Reads c reach m text x z (report ++ report_line bytes)
+      → LinesRead c reach m text x z (report ++ report_line bytes)
 
 -- the whole report of a text: the lines of reads that lead to its end; where it is too long no line
 -- is read, and one report line says so
 abbrev pub Reported : {D : Type 0} → Choice → (D → Task → ℕ → ℕ → ℕ → Type 0) → ℕ → List ℕ
     → Stage D → Stage D → List ℕ → Type 0
 Reported c reach m text x y report =
-    ((length text ≤ 16384) × Reads c reach m text x y report × (length text ≤ y.position))
+    ((length text ≤ 16384) × LinesRead c reach m text x y report × (length text ≤ y.position))
     ⊎ ((16384 < length text) × (y ≡ x) × (report ≡ report_line (unread_bytes TextTooLong)))
 
 -- a line is written: the writer holds it too, or it fails
 abbrev pub Writes : List ℕ → Option (List ℕ) → Option (List ℕ) → Result Unit ServeFault → Type 0
 Writes line out out' (Ok u) = Appends out out' line
-Writes line out out' (Err (serve_fault.Read e)) = ⊥
+Writes line out out' (Err (serve_fault.Unread e)) = ⊥
 Writes line out out' (Err (serve_fault.Output e)) = Unit {0}
 
 -- the report line of a text that is too long is written; a buffer that is too short ends it
 abbrev pub Reports : ReadFault → List ℕ → Option (List ℕ) → Option (List ℕ)
     → Result Unit ServeFault → Type 0
 Reports TextTooLong line out out' r = Writes line out out' r
-Reports BufferTooShort line out out' r = (r ≡ Err (serve_fault.Read BufferTooShort)) × Keeps out out'
+Reports BufferTooShort line out out' r = (r ≡ Err (serve_fault.Unread BufferTooShort)) × Keeps out out'
 
 -- what serving a text comes to: the writer then holds the whole report too; or the report buffer
 -- was too short, and nothing was read or written; or the writer failed, and some lines were read
@@ -47,8 +47,8 @@ abbrev pub ServesText : {D : Type 0} → Choice → (D → Task → ℕ → ℕ 
 ServesText c reach m text room x y out out' (Ok u) =
     (8209 ≤ room)
     × ((report : List ℕ) × Reported c reach m text x y report × Appends out out' report)
-ServesText c reach m text room x y out out' (Err (serve_fault.Read BufferTooShort)) =
+ServesText c reach m text room x y out out' (Err (serve_fault.Unread BufferTooShort)) =
     (room < 8209) × (y ≡ x) × Keeps out out'
-ServesText c reach m text room x y out out' (Err (serve_fault.Read TextTooLong)) = ⊥
+ServesText c reach m text room x y out out' (Err (serve_fault.Unread TextTooLong)) = ⊥
 ServesText c reach m text room x y out out' (Err (serve_fault.Output e)) =
-    (8209 ≤ room) × ((report : List ℕ) × Reads c reach m text x y report)
+    (8209 ≤ room) × ((report : List ℕ) × LinesRead c reach m text x y report)

@@ -61,18 +61,18 @@ pub record Looks (c : Choice) (R : ℕ → Type 0) (m : ℕ) (k : State) (r : Re
 
 -- what a request does to the case k, the sheet s and the book b, and what is replied; c is the
 -- picker's choice, R says which sets are in the decider's reach, m is its mark
-abbrev pub Answers : Choice → (ℕ → Type 0) → ℕ → Request → State → Result Reply LineFault → State
+abbrev pub Replies : Choice → (ℕ → Type 0) → ℕ → Request → State → Result Reply LineFault → State
     → List Row → List ℕ → List Row → List ℕ → Type 0
-Answers c R m (Open number n standing order) k r k' s b s' b' =
+Replies c R m (Open number n standing order) k r k' s b s' b' =
     Calls (λ a l. Opens number n standing order k a l) r k' s b s' b'
-Answers c R m (Change x) k r k' s b s' b' = Calls (λ a l. Changes x k a l) r k' s b s' b'
-Answers c R m Find k r k' s b s' b' = Looks c R m k r k' s b s' b'
-Answers c R m DrawAndSign k r k' s b s' b' = Calls (λ a l. DrawsAndSigns k a l) r k' s b s' b'
+Replies c R m (Change x) k r k' s b s' b' = Calls (λ a l. Changes x k a l) r k' s b s' b'
+Replies c R m Find k r k' s b s' b' = Looks c R m k r k' s b s' b'
+Replies c R m DrawAndSign k r k' s b s' b' = Calls (λ a l. DrawsAndSigns k a l) r k' s b s' b'
 
 -- what a frame does is what its request does
 abbrev pub Serves : Choice → (ℕ → Type 0) → ℕ → Frame → State → Result Reply LineFault → State
     → List Row → List ℕ → List Row → List ℕ → Type 0
-Serves c R m f k r k' s b s' b' = Answers c R m (request_of f) k r k' s b s' b'
+Serves c R m f k r k' s b s' b' = Replies c R m (request_of f) k r k' s b s' b'
 
 -- a line asks for what its frame does, or holds no frame and is refused with the kind that it shows
 abbrev pub Asks : Choice → (ℕ → Type 0) → ℕ → List ℕ → ℕ → State → Result Reply LineFault → State

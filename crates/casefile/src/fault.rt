@@ -2,7 +2,7 @@
 
 ghost use Rattle.std.specs.Prelude.{◌≡◌};
 ghost use Rattle.casefile.specs.declared.fault.LineFault.TheVariants.{Frame as OfFrame, Case as OfCase, Finder as OfFinder};
-ghost use Rattle.casefile.specs.declared.fault.ServeFault.TheVariants.{Read as Unread, Output as Unwritten};
+ghost use Rattle.casefile.specs.declared.fault.ServeFault.TheVariants.{Unread as OfUnread, Output as OfOutput};
 ghost use Rattle.frames.specs.Reports.{Printed};
 ghost use Rattle.casefile.specs.Faults.{told, told_unread, unread_bytes, reported_length};
 
@@ -126,7 +126,7 @@ impl ReadFault {
 pub enum ServeFault {
     /// No line is read.
     #[error("{0}")]
-    Read(ReadFault),
+    Unread(ReadFault),
     /// The report can't be written.
     #[error("{0}")]
     Output(io::Error),
@@ -158,15 +158,15 @@ impl From<FinderFault> for LineFault {
 }
 
 impl From<ReadFault> for ServeFault {
-    ghost from_gives = { λ e r. r ≡ Unread e };
+    ghost from_gives = { λ e r. r ≡ OfUnread e };
 
     fn from(fault: ReadFault) -> ServeFault {
-        ServeFault::Read(fault)
+        ServeFault::Unread(fault)
     }
 }
 
 impl From<io::Error> for ServeFault {
-    ghost from_gives = { λ e r. r ≡ Unwritten e };
+    ghost from_gives = { λ e r. r ≡ OfOutput e };
 
     fn from(fault: io::Error) -> ServeFault {
         ServeFault::Output(fault)

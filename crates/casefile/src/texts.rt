@@ -29,7 +29,7 @@ fn report_fault<W: Write>(fault: ReadFault, buffer: &[u8], output: &mut W) -> Re
 {
     match fault {
         ReadFault::TextTooLong => write_line(buffer, fault.reported(), output),
-        ReadFault::BufferTooShort => Err(ServeFault::Read(fault)),
+        ReadFault::BufferTooShort => Err(ServeFault::Unread(fault)),
     }
 }
 

@@ -26,7 +26,7 @@ use Rattle.cases.specs.Calls.{Asked, Opening, Changing, Finding, Drawing, Signin
 use Rattle.cases.specs.Refusing.{usable_refusal, case_refusal, of_case, of_size, refused, drawing, slip_of}
 use Rattle.cases.specs.State.{State, fresh, known_of, state_opened, state_changed, state_signed, state_with_slip}
 use Rattle.cases.specs.Finding.{answer_to, set_found, FindsBySearch, FindsUnless}
-use Rattle.cases.specs.Making.{Does, Makes, Made, unmade, then}
+use Rattle.cases.specs.Making.{MadeOrRefused, Makes, Made, unmade, then}
 use Rattle.cases.specs.Replay.{given, turned_down, refusal_in, rule, unless, next, replay, after_calls}
 use Rattle.cases.specs.Law.{FoundTruly, IsWaiver, IsFull, Promised, Keeps, Runs, none, more, Law}
 use Rattle.cases.proofs.Refused.{both_made, made_refused, refusing}
@@ -171,12 +171,18 @@ module _ (c : Choice) (R : Task → ℕ → ℕ → ℕ → Type 0) (m : ℕ) (k
 
 -- ---- and so does every list of calls
 
-module _ {D : Type 0} (c : Choice) (reach : D → Task → ℕ → ℕ → ℕ → Type 0) (m : ℕ) (first : D) where
-  pub calls_keep : (es : List Entry) (d : D) (k : State) → Made c reach m first es d k → Law c reach m first es d k
-  calls_keep es d k unmade = record { runs = none; state = refl; listed = none_listed unopened.task }
-  calls_keep es d k (then {es = fs} {d = d₀} {k = k₀} before e d' k' makes same) =
-      let law = calls_keep fs d₀ k₀ before in
-      let here = keeps c (reach d₀) m k₀ k' law.listed e.asked e.answered makes in
-      let on = subst (λ (p : Plain). Keeps c (reach d₀) m p (next p e) k₀ e.asked e.answered k') law.state here in
-      let kept = subst (λ (p : Plain). Keeps c (reach d₀) m (after_calls fs) p k₀ e.asked e.answered k') (sym (replay_more unopened fs e)) on in
+module _ {D : Type 0} (reach : D → Task → ℕ → ℕ → ℕ → Type 0) (m : ℕ) where
+  pub next_keeps : (c : Choice) (d : D) (es : List Entry) (k : State) (e : Entry) (k' : State) → k.plain ≡ after_calls es → Listed (known_of k)
+      → Makes c (reach d) m k e.asked e.answered k'
+      → Keeps c (reach d) m (after_calls es) (after_calls (es ++ e ∷ [])) k e.asked e.answered k'
+  next_keeps c d es k e k' is listed makes =
+      let here = keeps c (reach d) m k k' listed e.asked e.answered makes in
+      let on = subst (λ (p : Plain). Keeps c (reach d) m p (next p e) k e.asked e.answered k') is here in
+      subst (λ (p : Plain). Keeps c (reach d) m (after_calls es) p k e.asked e.answered k') (sym (replay_more unopened es e)) on
+
+  pub calls_keep : (c : Choice) (first : D) (es : List Entry) (d : D) (k : State) → Made c reach m first es d k → Law c reach m first es d k
+  calls_keep c first es d k unmade = record { runs = none; state = refl; listed = none_listed unopened.task }
+  calls_keep c first es d k (then {es = fs} {d = d₀} {k = k₀} before e d' k' makes same) =
+      let law = calls_keep c first fs d₀ k₀ before in
+      let kept = next_keeps c d₀ fs k₀ e k' law.state law.listed makes in
       record { runs = more law.runs e d' k' kept same; state = kept.state; listed = kept.listed }

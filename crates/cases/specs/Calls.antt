@@ -26,7 +26,8 @@ pub record Sought : Type 0 where
   pub sheet : List Row
   pub book : List ℕ
 
--- what is answered to a call: to find and draw as they do, to any other whether it was made
+-- what is answered to a call: find has its answer, draw what the slip says or why there is none, and
+-- any other whether it was made
 abbrev pub AnswerTo : Asked → Type 0
 AnswerTo (Finding s b) = Sought
 AnswerTo Drawing = Result SlipData Refusal
@@ -39,6 +40,10 @@ pub record Entry : Type 0 where
 
 -- ---- calls and answers of the program as entries
 
+-- The program's calls own find's buffers; here they are the lists that these hold, so that a call
+-- that lends its buffers has an entry too.
+
+-- the entry of a call and its answer, if it is an answer to such a call
 abbrev pub entry_of : Call → Answer → Option Entry
 entry_of (call.Open number n s o) (answer.Done r) =
     Some (record { asked = Opening number n s o; answered = r })

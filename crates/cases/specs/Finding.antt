@@ -8,7 +8,7 @@ use Rattle.waivers.specs.Searching.{Choice, Searches}
 use Rattle.waivers.specs.Wiping.{zero_rows, plan_length, IsWipedFrom}
 use Rattle.cases.specs.Calls.{Finding, Sought}
 use Rattle.cases.specs.Refusing.{refused}
-use Rattle.cases.specs.State.{State, known_of}
+use Rattle.cases.specs.State.{State, known_of, plain_found}
 
 -- find's answer to what its search found: the set, how many facts it has, and the plan's length
 abbrev pub answer_to : Result Found FinderFault → Result (ℕ × ℕ × ℕ) FinderFault
@@ -28,7 +28,7 @@ pub record FindsBySearch (c : Choice) (R : ℕ → Type 0) (m : ℕ) (k : State)
   pub found : Result Found FinderFault
   pub searches : Searches c R m (length s) (known_of k) found (known_of k') a.book
   pub answer : a.result ≡ answer_to found
-  pub plain : k'.plain ≡ record k.plain { finding = set_found a.result }
+  pub plain : k'.plain ≡ plain_found (set_found a.result) k.plain
   pub rows : a.sheet ≡ zero_rows (length s)
   pub places : IsWipedFrom (plan_length found) a.book
   pub book : length a.book ≡ length b

@@ -17,7 +17,7 @@ use Rattle.cases.specs.Finding.{Finds}
 
 -- A call that the case may refuse for o and else turns into f k: its answer says which, and a
 -- refusal changes nothing.
-pub record Does (o : Result Unit Refusal) (f : State → State) (k : State)
+pub record MadeOrRefused (o : Result Unit Refusal) (f : State → State) (k : State)
     (r : Result Unit Refusal) (k' : State) : Type 0 where
   pub answer : r ≡ o
   pub after : k' ≡ after o f k
@@ -25,11 +25,11 @@ pub record Does (o : Result Unit Refusal) (f : State → State) (k : State)
 -- open
 abbrev pub Opens : ℕ → ℕ → ℕ → ℕ → State → Result Unit Refusal → State → Type 0
 Opens number n s o k r k' =
-    Does (case_refusal k.plain (Opening number n s o)) (state_opened number n s o) k r k'
+    MadeOrRefused (case_refusal k.plain (Opening number n s o)) (state_opened number n s o) k r k'
 
 -- a change of what is planned over
 abbrev pub Changes : Change → State → Result Unit Refusal → State → Type 0
-Changes x k r k' = Does (case_refusal k.plain (Changing x)) (state_changed x) k r k'
+Changes x k r k' = MadeOrRefused (case_refusal k.plain (Changing x)) (state_changed x) k r k'
 
 -- draw: the answer is what the slip says, or why none is drawn; the slip is out then
 pub record Draws (k : State) (r : Result SlipData Refusal) (k' : State) : Type 0 where
@@ -39,12 +39,12 @@ pub record Draws (k : State) (r : Result SlipData Refusal) (k' : State) : Type 0
 -- sign, and a signed slip leaves a case that has a plan
 pub record Signs (slip : SlipData) (k : State) (r : Result Unit Refusal) (k' : State)
     : Type 0 where
-  pub does : Does (case_refusal k.plain (Signing slip)) (state_signed slip) k r k'
+  pub does : MadeOrRefused (case_refusal k.plain (Signing slip)) (state_signed slip) k r k'
   pub plan : IfOk r (λ u. Solvable k'.plain.task 0)
 
 -- tear
 abbrev pub Tears : SlipData → State → Result Unit Refusal → State → Type 0
-Tears slip k r k' = Does (case_refusal k.plain (Tearing slip)) (state_with_slip false) k r k'
+Tears slip k r k' = MadeOrRefused (case_refusal k.plain (Tearing slip)) (state_with_slip false) k r k'
 
 -- draw, and then sign with the slip that was drawn
 abbrev pub DrawsAndSigns : State → Result Unit Refusal → State → Type 0
@@ -54,8 +54,8 @@ DrawsAndSigns k (Err e) k' = Draws k (Err e) k'
 
 -- ---- any call
 
--- a call x on the case k, its answer and the case that it leaves; c is the picker's choice, R the
--- decider's reach, m its mark
+-- a call x on the case k, its answer and the case that it leaves (c is the picker's choice, R the
+-- decider's reach, m its mark); after find each listed group is a group of the case, none twice
 abbrev pub Makes : Choice → (Task → ℕ → ℕ → ℕ → Type 0) → ℕ → State → (x : Asked) → AnswerTo x
     → State → Type 0
 Makes c R m k (Opening number n s o) r k' = Opens number n s o k r k'

@@ -8,7 +8,7 @@ use Rattle.cases.specs.Plain.{Plain, unopened}
 use Rattle.cases.specs.Calls.{Asked, Opening, Changing, Finding, Drawing, Signing, Tearing, AnswerTo, Entry}
 use Rattle.cases.specs.Refusing.{of_case, refused}
 use Rattle.cases.specs.Finding.{set_found}
-use Rattle.cases.specs.State.{plain_opened, plain_changed, plain_signed, with_slip}
+use Rattle.cases.specs.State.{plain_opened, plain_changed, plain_found, plain_signed, with_slip}
 
 -- ---- which refusal an answer is
 
@@ -38,7 +38,7 @@ refusal_in (Tearing slip) r = of_case r
 abbrev pub rule : (x : Asked) → AnswerTo x → Plain → Plain
 rule (Opening number n s o) r p = plain_opened number n s o p
 rule (Changing x) r p = plain_changed x p
-rule (Finding s b) a p = record p { finding = set_found a.result }
+rule (Finding s b) a p = plain_found (set_found a.result) p
 rule Drawing r p = with_slip true p
 rule (Signing slip) r p = plain_signed slip p
 rule (Tearing slip) r p = with_slip false p

@@ -25,3 +25,8 @@ decision_of (Err (slip, e)) = Err e
 abbrev pub InHand : Plain → Option Slip → Type 0
 InHand p None = p.slip_out ≡ false
 InHand p (Some slip) = case_refusal p (Signing (content_of slip)) ≡ Ok tt
+
+-- what is in hand is not a slip that says this
+abbrev pub SaysOther : SlipData → Option Slip → Type 0
+SaysOther content None = Unit {0}
+SaysOther content (Some slip) = content_of slip ≡ content → ⊥

@@ -1,8 +1,8 @@
 -- A case in plain terms: a plain case with its group list; and what accepted calls make of both.
-use Rattle.std.specs.Prelude.{ℕ, Bool, true, false, List, [], None}
+use Rattle.std.specs.Prelude.{ℕ, Bool, true, false, List, [], None, Option}
 use Rattle.waivers.specs.declared.change.Change.{Change}
 use Rattle.waivers.specs.Known.{Known}
-use Rattle.waivers.specs.Changes.{task_after, fate_of, groups_after, opened, waived}
+use Rattle.waivers.specs.Changes.{task_after, fate_of, groups_after, task_opened, task_waived}
 use Rattle.cases.specs.declared.slip.SlipData.{SlipData}
 use Rattle.cases.specs.Plain.{Plain, unopened}
 
@@ -24,11 +24,15 @@ known_of k = record { task = k.plain.task; groups = k.groups }
 -- open sets number, number of facts, standing and order
 abbrev pub plain_opened : ℕ → ℕ → ℕ → ℕ → Plain → Plain
 plain_opened number n s o p =
-    record p { number = number; task = opened n s o p.task; finding = None }
+    record p { number = number; task = task_opened n s o p.task; finding = None }
 
 -- a change makes another task, and the finding is forgotten
 abbrev pub plain_changed : Change → Plain → Plain
 plain_changed x p = record p { task = task_after x p.task; finding = None }
+
+-- find leaves its set as the finding, or nothing
+abbrev pub plain_found : Option ℕ → Plain → Plain
+plain_found o p = record p { finding = o }
 
 -- a slip is out, or in
 abbrev pub with_slip : Bool → Plain → Plain
@@ -36,14 +40,15 @@ with_slip b p = record p { slip_out = b }
 
 -- sign waives the set and forgets the finding, and the slip is in
 abbrev pub plain_signed : SlipData → Plain → Plain
-plain_signed slip p = record p { task = waived slip.«set» p.task; finding = None; slip_out = false }
+plain_signed slip p = record p { task = task_waived slip.«set» p.task; finding = None; slip_out = false }
 
 -- ---- and of the group list
 
--- the list is emptied by open and sign
+-- open empties the list
 abbrev pub state_opened : ℕ → ℕ → ℕ → ℕ → State → State
 state_opened number n s o k = record { plain = plain_opened number n s o k.plain; groups = [] }
 
+-- sign empties it too
 abbrev pub state_signed : SlipData → State → State
 state_signed slip k = record { plain = plain_signed slip k.plain; groups = [] }
 

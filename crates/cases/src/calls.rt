@@ -58,7 +58,7 @@ impl Case {
         self.change(Change::Withdraw(place))
     }
 
-    /// Does a step for good, if its needs outside the waived facts stand.
+    /// MadeOrRefused a step for good, if its needs outside the waived facts stand.
     pub fn carry(&mut self, place: u8) -> Result<(), Refusal>
         ensures { Changes (Change.Carry place) (view self.old) result (view self.new) }
     {

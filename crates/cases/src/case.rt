@@ -1,6 +1,6 @@
 //! A case.
 
-ghost use Rattle.waivers.specs.Known.{known as known_of};
+ghost use Rattle.waivers.specs.Known.{known as task_and_groups};
 ghost use Rattle.cases.specs.Plain.{HasGoodFinding};
 
 use rules::Facts;
@@ -16,5 +16,5 @@ pub struct Case {
     pub(crate) known: KnownGroups,
     pub(crate) finding: Option<Facts>,
     pub(crate) slip_out: bool,
-    ghost good: { HasGoodFinding (known_of known).task finding },
+    ghost good: { HasGoodFinding (task_and_groups known).task finding },
 }

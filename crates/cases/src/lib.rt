@@ -16,4 +16,4 @@ pub use call::{Answer, Call};
 pub use case::Case;
 pub use running::{Outcome, run};
 pub use slip::{Slip, SlipData};
-pub use theorems::{calls_keep_the_law, slips_stay_as_drawn};
+pub use theorems::{calls_keep_the_law, next_call_keeps_the_law, slips_stay_as_drawn};

@@ -6,7 +6,7 @@ ghost use Rattle.waivers.specs.Known.{Listed};
 ghost use Rattle.cases.specs.State.{known_of};
 ghost use Rattle.cases.specs.View.{view};
 ghost use Rattle.cases.specs.Calls.{Entry, entry_of, Recorded};
-ghost use Rattle.cases.specs.Slips.{InHand};
+ghost use Rattle.cases.specs.Slips.{content_of, InHand, SaysOther};
 ghost use Rattle.cases.specs.Making.{Draws, Signs, Tears, Makes};
 ghost use Rattle.cases.specs.Law.{Law};
 
@@ -32,7 +32,7 @@ fn draw(case: &mut Case, in_hand: Option<Slip>) -> (Result<SlipData, Refusal>, O
     ensures in_hand { InHand (view case.new).plain result.1 }
 {
     if let Some(slip) = in_hand {
-        return (case.check_usable().map(|()| slip.content()), Some(slip));
+        return (Err(Refusal::SlipOut), Some(slip));
     }
     match case.draw() {
         Ok(slip) => (Ok(slip.content()), Some(slip)),
@@ -40,7 +40,25 @@ fn draw(case: &mut Case, in_hand: Option<Slip>) -> (Result<SlipData, Refusal>, O
     }
 }
 
-/// Signs the slip in hand, if it says this. Nothing else that says it is a slip that is out, and the case refuses it.
+/// The slip in hand, if it says this; else what is in hand stays there.
+fn take(in_hand: Option<Slip>, content: SlipData) -> Result<Slip, Option<Slip>>
+    ensures { MatchResult result
+        (λ slip. (in_hand ≡ Some slip) × (content_of slip ≡ content))
+        (λ left. (left ≡ in_hand) × SaysOther content in_hand) }
+{
+    match in_hand {
+        Some(slip) => {
+            if slip.content() == content {
+                Ok(slip)
+            } else {
+                Err(Some(slip))
+            }
+        }
+        None => Err(None),
+    }
+}
+
+/// Signs the slip in hand, if it says this. What says anything else is not the slip that is out, and the case refuses it.
 fn sign(
     case: &mut Case,
     in_hand: Option<Slip>,
@@ -50,19 +68,16 @@ fn sign(
     ensures signs { Signs content (view case.old) result.0 (view case.new) }
     ensures in_hand { InHand (view case.new).plain result.1 }
 {
-    let Some(slip) = in_hand else {
-        return (case.check_slip(content), None);
-    };
-    if slip.content() != content {
-        return (case.check_slip(content), Some(slip));
-    }
-    match case.sign(slip) {
-        Ok(()) => (Ok(()), None),
-        Err((slip, refusal)) => (Err(refusal), Some(slip)),
+    match take(in_hand, content) {
+        Err(in_hand) => (case.check_slip(content), in_hand),
+        Ok(slip) => match case.sign(slip) {
+            Ok(()) => (Ok(()), None),
+            Err((slip, refusal)) => (Err(refusal), Some(slip)),
+        },
     }
 }
 
-/// Tears the slip in hand, if it says this. Nothing else that says it is a slip that is out, and the case refuses it.
+/// Tears the slip in hand, if it says this. What says anything else is not the slip that is out, and the case refuses it.
 fn tear(
     case: &mut Case,
     in_hand: Option<Slip>,
@@ -72,15 +87,12 @@ fn tear(
     ensures tears { Tears content (view case.old) result.0 (view case.new) }
     ensures in_hand { InHand (view case.new).plain result.1 }
 {
-    let Some(slip) = in_hand else {
-        return (case.check_slip(content), None);
-    };
-    if slip.content() != content {
-        return (case.check_slip(content), Some(slip));
-    }
-    match case.tear(slip) {
-        Ok(()) => (Ok(()), None),
-        Err((slip, refusal)) => (Err(refusal), Some(slip)),
+    match take(in_hand, content) {
+        Err(in_hand) => (case.check_slip(content), in_hand),
+        Ok(slip) => match case.tear(slip) {
+            Ok(()) => (Ok(()), None),
+            Err((slip, refusal)) => (Err(refusal), Some(slip)),
+        },
     }
 }
 

@@ -74,12 +74,14 @@ impl Case {
             (view self.old) (decision_of result) (view self.new) }
         ensures back { IfErr result (λ e. e.0 ≡ slip) }
     {
-        if let Err(refusal) = self.check_slip(slip.content) {
-            return Err((slip, refusal));
+        match self.check_slip(slip.content) {
+            Err(refusal) => Err((slip, refusal)),
+            Ok(()) => {
+                let Slip { content: _ } = slip;
+                self.slip_out = false;
+                Ok(())
+            }
         }
-        let Slip { content: _ } = slip;
-        self.slip_out = false;
-        Ok(())
     }
 
     /// Draws a slip for the finding and signs it at once; the case has a plan then. Once it is drawn, it can't be refused.

@@ -9,12 +9,14 @@ use std::alloc::Global;
 use std::io;
 use waivers::{Change, FinderFault};
 
+mod foreign;
 mod full;
 mod making;
 mod mixed;
 mod random;
 mod tally;
 
+use foreign::report_foreign;
 use full::full_list;
 use mixed::mixed_calls;
 use random::random_calls;

@@ -1,5 +1,5 @@
--- The calls that only change what is planned over: what refuses each, what it makes of the task,
--- and what becomes of the groups.
+-- The calls that only change what is planned over: what refuses each, what it makes of the task, and
+-- what becomes of the groups; and what open and sign make of task and groups.
 use Rattle.std.specs.Prelude.{ℕ, cond, ◌||◌, List, [], fold, Some, None, Ok, Err, Option, Result, ◌==◌, nat_lt, slice_set}
 use Rattle.rules.specs.declared.refusal.Refusal.{Refusal}
 use Rattle.rules.specs.declared.refusal.Refusal.TheVariants.{FactCount, UnknownFact, NoSuchPlace, PlaceEmpty, NeedMissing, WaivedFact}
@@ -96,12 +96,12 @@ open_refusal n s o =
     (cond (inside (s ∪ o) (below n)) (Ok tt) (Err UnknownFact))
 
 -- the number of facts, the standing and the order are set
-abbrev pub opened : ℕ → ℕ → ℕ → Task → Task
-opened n s o p = record p { n = n; standing = s; order = o }
+abbrev pub task_opened : ℕ → ℕ → ℕ → Task → Task
+task_opened n s o p = record p { n = n; standing = s; order = o }
 
 -- these facts are waived too
-abbrev pub waived : ℕ → Task → Task
-waived s p = with_waived p (p.waived ∪ s)
+abbrev pub task_waived : ℕ → Task → Task
+task_waived s p = with_waived p (p.waived ∪ s)
 
 -- another task, and no group is known of it
 abbrev pub anew : (Task → Task) → Known → Known

@@ -5,7 +5,7 @@ ghost use Rattle.rules.specs.Planning.{task, strike as strike_out};
 ghost use Rattle.rules.specs.Checking.{Checks};
 ghost use Rattle.rules.specs.Refusals.{after};
 ghost use Rattle.waivers.specs.Known.{known, nothing, Reserved, Listed};
-ghost use Rattle.waivers.specs.Changes.{names_refusal, refusal_of, changed, open_refusal, opened, waived, anew};
+ghost use Rattle.waivers.specs.Changes.{names_refusal, refusal_of, changed, open_refusal, task_opened, task_waived, anew};
 
 use crate::change::{Change, Fate, check_names};
 use crate::known::{KnownGroups, MAX_GROUPS};
@@ -57,7 +57,7 @@ impl KnownGroups {
     pub fn open(&mut self, n: u8, standing: Facts, order: Facts) -> Result<(), Refusal>
         ensures answer { result ≡ open_refusal n standing order }
         ensures after { known self.new
-            ≡ after result (anew (opened n standing order)) (known self.old) }
+            ≡ after result (anew (task_opened n standing order)) (known self.old) }
     {
         if n == 0 || n > 32 {
             return Err(Refusal::FactCount);
@@ -88,7 +88,7 @@ impl KnownGroups {
 
     /// Waives facts for good. They go from every reading of the problem, so the list is emptied.
     pub fn waive(&mut self, set: Facts)
-        ensures { known self.new ≡ anew (waived «set») (known self.old) }
+        ensures { known self.new ≡ anew (task_waived «set») (known self.old) }
     {
         self.groups.clear(); // waived facts are waivable no more, and what was good asks for nothing now
         self.problem.waived |= set;

@@ -44,5 +44,5 @@ returns-clause-law g c =
     c.loop-call.yielded c.loop-call.call-iterator c.loop-call.yielded_by c.next.result c.next.new.self c.in-None.is c.next.ensures.steps).0 in (
       r.entries,
       subst (λ xs. Recorded xs c.loop-call.answers.items r.entries) all r.recorded,
-      calls_keep (g.P.Picker.choice c.args.picker.now) g.D.Decider.reach g.D.Decider.MARK c.args.decider.now r.entries c.loop-call.decider (view c.loop-call.case) r.made,
+      calls_keep g.D.Decider.reach g.D.Decider.MARK (g.P.Picker.choice c.args.picker.now) c.args.decider.now r.entries c.loop-call.decider (view c.loop-call.case) r.made,
     )
