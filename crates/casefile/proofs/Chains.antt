@@ -11,7 +11,7 @@ use Rattle.casefile.specs.declared.fault.ReadFault.{ReadFault}
 use Rattle.casefile.specs.declared.fault.ReadFault.TheVariants.{TextTooLong, BufferTooShort}
 use Rattle.casefile.specs.declared.fault.ServeFault.{ServeFault}
 use Rattle.casefile.specs.declared.fault.ServeFault.TheVariants as serve_fault
-use Rattle.casefile.specs.Faults.{unread_bytes, reported_length}
+use Rattle.casefile.specs.Faults.{too_long_bytes, reported_length}
 use Rattle.casefile.specs.Reporting.{Stage, Read, ReadsNext}
 use Rattle.casefile.specs.Chains.{LinesRead, none, more, Writes, Reports, ServesText}
 
@@ -80,13 +80,13 @@ module _ {D : Type 0} (c : Choice) (reach : D → Task → ℕ → ℕ → ℕ �
   progress_unread x y z out out' out'' buf buf' TextTooLong r long p (enough, many, same, printed) writes =
       elim p.begun [ inl (at, keeps) ↦ too_long r writes (same ∙ at) keeps | inr (roomy, short) ↦ absurd (omega arith) ]
     where
-      line : take (reported_length TextTooLong) buf' ≡ report_line (unread_bytes TextTooLong)
-      line = printed_line (unread_bytes TextTooLong) buf buf' (reported_length TextTooLong) printed
+      line : take (reported_length TextTooLong) buf' ≡ report_line too_long_bytes
+      line = printed_line too_long_bytes buf buf' (reported_length TextTooLong) printed
 
       too_long : (r : Result Unit ServeFault) → Writes (take (reported_length TextTooLong) buf') out' out'' r → z ≡ x → Keeps out out'
           → ServesText c reach m text room x z out out'' r
       too_long (Ok u) w at keeps =
-          (omega arith, (report_line (unread_bytes TextTooLong), inr (many, at, refl), Keeps-appends out out' out'' _ keeps (subst (Appends out' out'') line w)))
+          (omega arith, (report_line too_long_bytes, inr (many, at, refl), Keeps-appends out out' out'' _ keeps (subst (Appends out' out'') line w)))
       too_long (Err (serve_fault.Unread e)) w at keeps = absurd w
       too_long (Err (serve_fault.Output e)) w at keeps = (omega arith, ([], rw at none))
 
@@ -95,6 +95,7 @@ module _ {D : Type 0} (c : Choice) (reach : D → Task → ℕ → ℕ → ℕ �
       → ReadsNext c reach m text y z buf buf' (Ok None) → ServesText c reach m text room x z out out' (Ok tt)
   progress_ended x y z out out' buf buf' long p (enough, short, past, same, kept) =
       (omega arith, (p.report, inl (short, rw same p.reads, rw same past), p.writes))
+
 
   -- where the report of a text can't be flushed
   pub unflushed

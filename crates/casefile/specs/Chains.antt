@@ -8,7 +8,7 @@ use Rattle.casefile.specs.declared.fault.ReadFault.{ReadFault}
 use Rattle.casefile.specs.declared.fault.ReadFault.TheVariants.{TextTooLong, BufferTooShort}
 use Rattle.casefile.specs.declared.fault.ServeFault.{ServeFault}
 use Rattle.casefile.specs.declared.fault.ServeFault.TheVariants as serve_fault
-use Rattle.casefile.specs.Faults.{unread_bytes}
+use Rattle.casefile.specs.Faults.{too_long_bytes}
 use Rattle.casefile.specs.Reporting.{Stage, Read}
 
 -- reads of lines, each from the stage that the one before came to, lead from x to a stage, and
@@ -26,7 +26,7 @@ abbrev pub Reported : {D : Type 0} → Choice → (D → Task → ℕ → ℕ �
     → Stage D → Stage D → List ℕ → Type 0
 Reported c reach m text x y report =
     ((length text ≤ 16384) × LinesRead c reach m text x y report × (length text ≤ y.position))
-    ⊎ ((16384 < length text) × (y ≡ x) × (report ≡ report_line (unread_bytes TextTooLong)))
+    ⊎ ((16384 < length text) × (y ≡ x) × (report ≡ report_line too_long_bytes))
 
 -- a line is written: the writer holds it too, or it fails
 abbrev pub Writes : List ℕ → Option (List ℕ) → Option (List ℕ) → Result Unit ServeFault → Type 0
@@ -38,10 +38,12 @@ Writes line out out' (Err (serve_fault.Output e)) = Unit {0}
 abbrev pub Reports : ReadFault → List ℕ → Option (List ℕ) → Option (List ℕ)
     → Result Unit ServeFault → Type 0
 Reports TextTooLong line out out' r = Writes line out out' r
-Reports BufferTooShort line out out' r = (r ≡ Err (serve_fault.Unread BufferTooShort)) × Keeps out out'
+Reports BufferTooShort line out out' r =
+    (r ≡ Err (serve_fault.Unread BufferTooShort)) × Keeps out out'
 
--- what serving a text comes to: the writer then holds the whole report too; or the report buffer
--- was too short, and nothing was read or written; or the writer failed, and some lines were read
+-- what serving a text comes to: the writer then holds the whole report too; or the report buffer was
+-- too short, and nothing was read or written; or it ended with an output error: some lines were read,
+-- and what the writer then holds is not said
 abbrev pub ServesText : {D : Type 0} → Choice → (D → Task → ℕ → ℕ → ℕ → Type 0) → ℕ → List ℕ → ℕ
     → Stage D → Stage D → Option (List ℕ) → Option (List ℕ) → Result Unit ServeFault → Type 0
 ServesText c reach m text room x y out out' (Ok u) =

@@ -13,7 +13,7 @@ use Rattle.casefile.specs.declared.fault.ReadFault.TheVariants.{TextTooLong, Buf
 use Rattle.casefile.specs.declared.serving.Reply.{Reply}
 use Rattle.casefile.specs.declared.serving.Reply.TheVariants.{Done, Found}
 use Rattle.casefile.specs.declared.reading.Reading.{Reading}
-use Rattle.casefile.specs.Faults.{told, told_bytes, unread_bytes, reported_length}
+use Rattle.casefile.specs.Faults.{told, told_bytes, too_long_bytes, reported_length}
 use Rattle.casefile.specs.Serving.{Asks}
 
 -- the bytes of the report line for a line of this kind and number; a plan begins the book
@@ -68,7 +68,7 @@ ReadsNext c reach m text x y buf buf' (Err BufferTooShort) =
     (length buf < 8209) × (y ≡ x) × (buf' ≡ buf)
 ReadsNext c reach m text x y buf buf' (Err TextTooLong) =
     (8209 ≤ length buf) × (16384 < length text) × (y ≡ x)
-    × Printed (unread_bytes TextTooLong) buf buf' (Some (reported_length TextTooLong))
+    × Printed too_long_bytes buf buf' (Some (reported_length TextTooLong))
 ReadsNext c reach m text x y buf buf' (Ok None) =
     (8209 ≤ length buf) × (length text ≤ 16384) × (length text ≤ x.position)
     × (y ≡ x) × (buf' ≡ buf)

@@ -44,8 +44,8 @@ looked (Err e) = Err (fault.Finder e)
 
 -- a call that touches neither sheet nor book is made, as C says of its answer and of the case then,
 -- and its answer is passed on
-pub record Calls (C : Result Unit Refusal → State → Type 0) (r : Result Reply LineFault) (k' : State)
-    (s : List Row) (b : List ℕ) (s' : List Row) (b' : List ℕ) : Type 0 where
+pub record Calls (C : Result Unit Refusal → State → Type 0) (r : Result Reply LineFault)
+    (k' : State) (s : List Row) (b : List ℕ) (s' : List Row) (b' : List ℕ) : Type 0 where
   pub answer : Result Unit Refusal
   pub makes : C answer k'
   pub reply : r ≡ called answer

@@ -4,7 +4,7 @@ ghost use Rattle.std.specs.Prelude.{◌≡◌};
 ghost use Rattle.casefile.specs.declared.fault.LineFault.TheVariants.{Frame as OfFrame, Case as OfCase, Finder as OfFinder};
 ghost use Rattle.casefile.specs.declared.fault.ServeFault.TheVariants.{Unread as OfUnread, Output as OfOutput};
 ghost use Rattle.frames.specs.Reports.{Printed};
-ghost use Rattle.casefile.specs.Faults.{told, told_unread, unread_bytes, reported_length};
+ghost use Rattle.casefile.specs.Faults.{told, told_unread, too_long_bytes, reported_length};
 
 use deciders::DeciderFault;
 use frames::{Added, FrameFault, Refused, write_refused};
@@ -68,8 +68,10 @@ impl LineFault {
 /// Why no line of a text is read.
 #[derive(Clone, Copy, PartialEq, Eq, Debug, Error)]
 pub enum ReadFault {
+    /// The text has more than 16,384 bytes.
     #[error("the text has more than 16,384 bytes")]
     TextTooLong,
+    /// The report buffer has fewer than 8,209 bytes.
     #[error("the report buffer has fewer than 8,209 bytes")]
     BufferTooShort,
 }
@@ -95,7 +97,8 @@ impl ReadFault {
         }
     }
 
-    /// How many bytes the report line takes that stands for the fault; 0 where none is written.
+    /// How many bytes the report line has that the fault leaves at the front of the buffer: 11 where the text is too long,
+    /// and 0 where the buffer is too short.
     pub fn reported(&self) -> usize
         ensures { result ≡ reported_length self.now }
     {
@@ -104,21 +107,22 @@ impl ReadFault {
             ReadFault::TextTooLong => 11,
         }
     }
+}
 
-    /// Writes the report line of the fault to the front of the buffer, and says how long it is. It is of no line, so kind
-    /// and line are 0.
-    pub(crate) fn report(&self, buffer: &mut [u8]) -> Option<usize>
-        ensures { Printed (unread_bytes self.now) buffer.old buffer.new result }
-    {
-        let refused = Refused {
-            kind: 0,
-            refusal: self.number(),
-            layer: u8::from(self.layer()),
-            line: 0,
-            added: None,
-        };
-        write_refused(&refused, buffer)
-    }
+/// Writes the one report line of a text that is too long to the front of the buffer, and says how long it is. It is of no
+/// line, so kind and line are 0.
+pub(crate) fn report_too_long(buffer: &mut [u8]) -> Option<usize>
+    ensures { Printed too_long_bytes buffer.old buffer.new result }
+{
+    let fault = ReadFault::TextTooLong;
+    let refused = Refused {
+        kind: 0,
+        refusal: fault.number(),
+        layer: u8::from(fault.layer()),
+        line: 0,
+        added: None,
+    };
+    write_refused(&refused, buffer)
 }
 
 /// Why a text is not served to its end.

@@ -33,8 +33,12 @@ fn report_fault<W: Write>(fault: ReadFault, buffer: &[u8], output: &mut W) -> Re
     }
 }
 
-/// Reads the lines of a text to its end, and writes the report line of each, or the one of a text that is too long.
-fn serve_lines<D: Decider, P: Picker, W: Write>(
+/// Serves a text: reads its lines to its end, makes the call that each asks for, and writes the report line of each; or
+/// writes the one report line of a text that is too long. The buffer is free afterwards, and the writer is not flushed.
+///
+/// A report buffer of fewer than 8,209 bytes is refused, and nothing is read or written. Where the writer fails, its error
+/// ends the text: some of its lines were served, and what the writer then holds is not known.
+pub fn serve_text<D: Decider, P: Picker, W: Write>(
     text: &[u8],
     desk: &mut Desk<D, P>,
     buffer: &mut [u8],
@@ -53,22 +57,4 @@ fn serve_lines<D: Decider, P: Picker, W: Write>(
             Err(fault) => return report_fault(fault, buffer, output),
         }
     }
-}
-
-/// Serves a text: reads its lines to its end, makes the call that each asks for, and writes the report line of each; or
-/// writes the one report line of a text that is too long. The buffer is free afterwards.
-pub fn serve_text<D: Decider, P: Picker, W: Write>(
-    text: &[u8],
-    desk: &mut Desk<D, P>,
-    buffer: &mut [u8],
-    output: &mut W,
-) -> Result<(), ServeFault>
-    ensures same { KeepsLoans desk.old desk.new }
-    ensures reach { KeepsReach D.reach desk.old desk.new }
-    ensures serves { ServesTextAt P.choice D.reach D.MARK text.now (length buffer.old)
-        desk.old desk.new (W.contents output.old) (W.contents output.new) result }
-{
-    serve_lines(text, desk, buffer, output)?;
-    output.flush()?;
-    Ok(())
 }

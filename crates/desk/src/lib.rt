@@ -2,15 +2,17 @@
 
 #![tactic(auto)]
 
-ghost use Rattle.std.specs.Prelude.{◌≡◌, ◌≤◌, take, vec_len, IfOk, IfSome};
+ghost use Rattle.std.specs.Prelude.{◌≡◌, ◌≤◌, [], length, take, vec_len, IfOk, IfSome};
+ghost use Rattle.std.specs.Io.Buffered.{writer_contents, writer_buffer};
+ghost use Rattle.casefile.specs.Desks.{ServesTextAt};
 
-use casefile::{Desk, MAX_TEXT, MIN_REPORT, serve_text};
+use casefile::{Desk, MAX_TEXT, MIN_REPORT, ServeFault, serve_text};
 use cases::Case;
-use deciders::{Forward, MAX_PLACES, MAX_ROWS, Row, Screen};
-use pickers::CountingPicker;
+use deciders::{Decider, Forward, MAX_PLACES, MAX_ROWS, Row, Screen};
+use pickers::{CountingPicker, Picker};
 use std::alloc::Global;
 use std::io;
-use std::io::{BufWriter, Read};
+use std::io::{BufWriter, Read, Write};
 
 /// A text that fills this much is too long, however it goes on.
 const ROOM: usize = MAX_TEXT + 1;
@@ -26,6 +28,22 @@ fn read_text<R: Read + Drop>(heap: Global, input: R) -> io::Result<Vec<u8>>
     // whatever a reader says of itself
     text.truncate(ROOM);
     Ok(text)
+}
+
+/// Serves a text into a writer that gathers what it is given, and holds nothing back in the end.
+fn serve_gathered<D: Decider, P: Picker, W: Write + Drop>(
+    text: &[u8],
+    desk: &mut Desk<D, P>,
+    buffer: &mut [u8],
+    output: &mut BufWriter<W>,
+) -> Result<(), ServeFault>
+    ensures serves { ServesTextAt P.choice D.reach D.MARK text.now (length buffer.old) desk.old desk.new
+        (writer_contents W.contents output.old) (writer_contents W.contents output.new) result }
+    ensures gathered { IfOk result (λ _. writer_buffer output.new ≡ []) }
+{
+    serve_text(text, desk, buffer, output)?;
+    output.flush()?;
+    Ok(())
 }
 
 /// Serves the case file on standard input: a screen over forward with 4,096 rows decides, and the counting picker picks.
@@ -45,6 +63,6 @@ pub fn serve_input(rt: &HostRuntime) -> anyhow::Result<()> {
         book: &mut book,
     };
     let mut output = BufWriter::new(heap, rt.stdout())?;
-    serve_text(&text, &mut desk, &mut buffer, &mut output)?;
+    serve_gathered(&text, &mut desk, &mut buffer, &mut output)?;
     Ok(())
 }

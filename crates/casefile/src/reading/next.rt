@@ -4,7 +4,7 @@ ghost use Rattle.frames.specs.Reports.{Printed};
 ghost use Rattle.casefile.specs.Reporting.{reply_bytes, AtStart, Fits};
 ghost use Rattle.casefile.specs.Desks.{KeepsLoans, KeepsReach, AsksAt, ReadsAt};
 
-use crate::fault::{LineFault, ReadFault};
+use crate::fault::{LineFault, ReadFault, report_too_long};
 use crate::reading::Reading;
 use crate::serving::{Desk, Reply};
 use deciders::Decider;
@@ -99,9 +99,8 @@ impl Reading {
             return Err(ReadFault::BufferTooShort);
         }
         if text.len() > MAX_TEXT {
-            let fault = ReadFault::TextTooLong;
-            fault.report(buffer).ok_or(ReadFault::BufferTooShort)?;
-            return Err(fault);
+            report_too_long(buffer).ok_or(ReadFault::BufferTooShort)?;
+            return Err(ReadFault::TextTooLong);
         }
         let Some((line, next)) = next_line(text, self.position) else {
             return Ok(None);

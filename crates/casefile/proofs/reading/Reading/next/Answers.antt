@@ -4,5 +4,5 @@ use Rattle.casefile.proofs.reading.Reading.next.Goals as goal
 
 pub returns-in_err-length : goal.returns-in_err-length
 returns-in_err-length g c =
-    let unwritten = rw c.in_err-length.ensures.ok_part at c.report-2.ensures in
+    let unwritten = rw c.in_err-length.ensures.ok_part at c.report.ensures in
     absurd (always_room _ _ _ (search (rules, short_reply)) (omega arith) unwritten)

@@ -1,7 +1,7 @@
 use Rattle.std.proofs.Common.{length, ◌-◌}
 use Rattle.casefile.specs.Desks.{KeepsLoans, KeepsReach, stage_at}
 use Rattle.casefile.proofs.Chains.{Progress}
-use Rattle.casefile.proofs.texts.serve_lines.Given as goal
+use Rattle.casefile.proofs.texts.serve_text.Given as goal
 
 abbrev pub invariant-lines : goal.invariant-lines
 invariant-lines g l = record {
