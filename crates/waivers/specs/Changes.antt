@@ -11,7 +11,7 @@ use Rattle.rules.specs.Places.{put_refusal, clear_refusal}
 use Rattle.rules.specs.Refusals.{first_refusal}
 use Rattle.rules.specs.Listing.{adding}
 use Rattle.waivers.specs.declared.change.Change.{Change}
-use Rattle.waivers.specs.declared.change.Change.TheVariants.{Grant, Lapse, Put, Withdraw, Carry, Order, Cancel}
+use Rattle.waivers.specs.declared.change.Change.TheVariants as change
 use Rattle.waivers.specs.declared.change.Fate.{Fate}
 use Rattle.waivers.specs.declared.change.Fate.TheVariants.{Emptied, Kept, Losing}
 use Rattle.waivers.specs.Known.{Known}
@@ -33,15 +33,15 @@ ready_refusal p (Some t) = cond (inside (t.needs ∖ p.waived) p.standing) (Ok t
 
 -- what refuses each change, by rising number
 abbrev pub refusal_of : Task → Change → Result Unit Refusal
-refusal_of p (Grant s) = names_refusal p s
-refusal_of p (Lapse s) = names_refusal p s
-refusal_of p (Put i needs gives takes) =
+refusal_of p (change.Grant s) = names_refusal p s
+refusal_of p (change.Lapse s) = names_refusal p s
+refusal_of p (change.Put i needs gives takes) =
     first_refusal (names_refusal p (needs ∪ gives ∪ takes))
     (first_refusal (step_refusal gives takes) (put_refusal p.steps i))
-refusal_of p (Withdraw i) = clear_refusal p.steps i
-refusal_of p (Carry i) = cond (nat_lt i 64) (ready_refusal p (held p i)) (Err NoSuchPlace)
-refusal_of p (Order s) = first_refusal (names_refusal p s) (waived_refusal p s)
-refusal_of p (Cancel s) = names_refusal p s
+refusal_of p (change.Withdraw i) = clear_refusal p.steps i
+refusal_of p (change.Carry i) = cond (nat_lt i 64) (ready_refusal p (held p i)) (Err NoSuchPlace)
+refusal_of p (change.Order s) = first_refusal (names_refusal p s) (waived_refusal p s)
+refusal_of p (change.Cancel s) = names_refusal p s
 
 -- ---- what a change makes of the task
 
@@ -52,26 +52,25 @@ done_by (Some t) s = done t s
 
 -- what each change makes of the task; a step is done for good with all that it takes and gives
 abbrev pub task_after : Change → Task → Task
-task_after (Grant s) p = with_standing p (p.standing ∪ s)
-task_after (Lapse s) p = with_standing p (p.standing ∖ s)
-task_after (Put i needs gives takes) p =
-    with_steps p (slice_set p.steps i (Some (step_of needs gives takes)))
-task_after (Withdraw i) p = with_steps p (slice_set p.steps i None)
-task_after (Carry i) p = with_standing p (done_by (held p i) p.standing)
-task_after (Order s) p = with_order p (p.order ∪ s)
-task_after (Cancel s) p = with_order p (p.order ∖ s)
+task_after (change.Grant s) p = with_standing p (p.standing ∪ s)
+task_after (change.Lapse s) p = with_standing p (p.standing ∖ s)
+task_after (change.Put i needs gives takes) p = with_steps p (slice_set p.steps i (Some (step_of needs gives takes)))
+task_after (change.Withdraw i) p = with_steps p (slice_set p.steps i None)
+task_after (change.Carry i) p = with_standing p (done_by (held p i) p.standing)
+task_after (change.Order s) p = with_order p (p.order ∪ s)
+task_after (change.Cancel s) p = with_order p (p.order ∖ s)
 
 -- ---- what becomes of the groups
 
 -- after each change the list is emptied, or kept, or each group loses the facts that are ordered
 abbrev pub fate_of : Change → Fate
-fate_of (Grant s) = Emptied
-fate_of (Lapse s) = Kept
-fate_of (Put i needs gives takes) = Emptied
-fate_of (Withdraw i) = Kept
-fate_of (Carry i) = Kept
-fate_of (Order s) = Losing s
-fate_of (Cancel s) = Emptied
+fate_of (change.Grant s) = Emptied
+fate_of (change.Lapse s) = Kept
+fate_of (change.Put i needs gives takes) = Emptied
+fate_of (change.Withdraw i) = Kept
+fate_of (change.Carry i) = Kept
+fate_of (change.Order s) = Losing s
+fate_of (change.Cancel s) = Emptied
 
 -- each group in turn loses the facts of s, and is left out if it then equals one before it
 abbrev pub losing : ℕ → List ℕ → List ℕ

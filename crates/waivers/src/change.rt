@@ -173,9 +173,13 @@ impl Change {
         ensures { result ≡ fate_of self }
     {
         match self {
-            Change::Grant(_) | Change::Put { .. } | Change::Cancel(_) => Fate::Emptied,
-            Change::Lapse(_) | Change::Withdraw(_) | Change::Carry(_) => Fate::Kept,
+            Change::Grant(_) => Fate::Emptied,
+            Change::Lapse(_) => Fate::Kept,
+            Change::Put { .. } => Fate::Emptied,
+            Change::Withdraw(_) => Fate::Kept,
+            Change::Carry(_) => Fate::Kept,
             Change::Order(set) => Fate::Losing(set),
+            Change::Cancel(_) => Fate::Emptied,
         }
     }
 }

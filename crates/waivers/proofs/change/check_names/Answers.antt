@@ -1,5 +1,4 @@
-use Rattle.std.proofs.Common.{◌≡◌, ℕ, ◌∙◌, Bool, true, false, sym, ap, refl}
-use Rattle.rules.specs.Sets.{inside, below}
+use Rattle.std.proofs.Common.{◌∙◌, sym, refl}
 use Rattle.waivers.proofs.Names.{names_same}
 use Rattle.waivers.proofs.change.check_names.Goals as goal
 
