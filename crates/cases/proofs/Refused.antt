@@ -1,17 +1,19 @@
 -- What a refusal, or none, says of the case that met a call.
-use Rattle.std.proofs.Common.{◌≡◌, ℕ, Bool, true, false, cond, ◌&&◌, T, eqb, List, length, Some, None, Ok, Err, Option, Result, sym, refl, ap, ◌∙◌, subst, arith, eqb→eq}
+use Rattle.std.proofs.Common.{◌≡◌, ℕ, Bool, true, false, cond, ◌&&◌, T, eqb, List, length, Some, None, Ok, Err, Option, Result, unwrap_or, sym, refl, ap, ◌∙◌, subst, arith, eqb→eq}
 use Rattle.std.proofs.lemmas.Bool.{and_parts}
 use Rattle.std.specs.Option.{option_eq}
 use Rattle.rules.specs.declared.refusal.Refusal.{Refusal}
-use Rattle.rules.specs.declared.refusal.Refusal.TheVariants.{Unopened, AlreadyOpen, SlipOut, WrongSlip}
-use Rattle.rules.specs.Refusals.{first_refusal}
+use Rattle.rules.specs.declared.refusal.Refusal.TheVariants.{Unopened, SlipOut, NoFinding, WrongSlip}
+use Rattle.rules.specs.Refusals.{first_refusal, after}
 use Rattle.deciders.specs.declared.limits.SizeFault.{SizeFault}
 use Rattle.waivers.specs.declared.fault.FinderFault.{FinderFault}
 use Rattle.waivers.specs.declared.fault.FinderFault.TheVariants.{Case, Size, NoWaiver, Decider, ListFull}
 use Rattle.cases.specs.declared.slip.SlipData.{SlipData}
 use Rattle.cases.specs.Plain.{Plain}
 use Rattle.cases.specs.Calls.{Asked, Opening, Changing, Finding, Drawing, Signing, Tearing, AnswerTo, Entry}
-use Rattle.cases.specs.Refusing.{opened_refusal, usable_refusal, is_out, case_refusal, of_case, of_size, refused}
+use Rattle.cases.specs.Refusing.{usable_refusal, slip_of, is_out, case_refusal, of_case, of_size, refused}
+use Rattle.cases.specs.State.{State, state_with_slip}
+use Rattle.cases.specs.Making.{Draws}
 use Rattle.cases.specs.Replay.{turned_down, rule, unless, next}
 
 pub true_false : {A : Type 0} → true ≡ false → A
@@ -86,3 +88,35 @@ pub refusing : (a : Result Unit Refusal) (b : Result Unit SizeFault) (e : Finder
 refusing (Ok u) (Ok v) e is P of so = made_refused tt e (sym is)
 refusing (Ok u) (Err f) e is P of so = let same : Size f ≡ e = cc in subst P same (so f)
 refusing (Err r) b e is P of so = let same : Case r ≡ e = cc in subst P same (of r)
+
+-- ---- a slip that was drawn
+
+made_by : (o : Result Unit Refusal) (p : Plain) (slip : SlipData) → ◌≡◌ {A = Result SlipData Refusal} (Ok slip) (first_refusal o (Ok (slip_of p)))
+    → (o ≡ Ok tt) × (slip ≡ slip_of p)
+made_by (Ok u) p slip is = (refl, (cc))
+made_by (Err e) p slip is = made_refused slip e (sym is)
+
+found_by : (o : Option ℕ) → ◌≡◌ {A = Result Unit Refusal} (cond (eqb (unwrap_or o 0) 0) (Err NoFinding) (Ok tt)) (Ok tt)
+    → option_eq eqb o (Some (unwrap_or o 0)) ≡ true
+found_by None is = made_refused tt NoFinding is
+found_by (Some s) is = grind arith
+
+same_number : (n : ℕ) → eqb n n ≡ true
+same_number n = grind arith
+
+taken_by : (a b c : Bool) → a ≡ false → b ≡ true → c ≡ true
+    → ◌≡◌ {A = Result Unit Refusal} (first_refusal (cond a (Err Unopened) (Ok tt)) (cond (true && (b && c)) (Ok tt) (Err WrongSlip))) (Ok tt)
+taken_by a b c p q r = rw (p, q, r) refl
+
+-- a slip that was drawn is the one that the case takes
+pub drawn_taken : (k k' : State) (slip : SlipData) → Draws k (Ok slip) k' → case_refusal k'.plain (Signing slip) ≡ Ok tt
+drawn_taken k k' slip d =
+    let p = k.plain in
+    let (made, is) = made_by (case_refusal p Drawing) p slip d.answer in
+    let (usable, own) = both_made (usable_refusal p) _ made in
+    let (opened, out) = opened_by (eqb p.task.n 0) _ usable in
+    let after_it : k' ≡ state_with_slip true k = d.after ∙ ap (λ (o : Result Unit Refusal). after o (state_with_slip true) k) made in
+    let here : case_refusal (state_with_slip true k).plain (Signing (slip_of p)) ≡ Ok tt =
+    taken_by (eqb p.task.n 0) (eqb p.number p.number) (option_eq eqb p.finding (Some (unwrap_or p.finding 0))) opened (same_number p.number) (found_by p.finding own) in
+    subst (λ (n : State). case_refusal n.plain (Signing slip) ≡ Ok tt) (sym after_it)
+    (subst (λ (s : SlipData). case_refusal (state_with_slip true k).plain (Signing s) ≡ Ok tt) (sym is) here)

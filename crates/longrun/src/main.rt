@@ -191,5 +191,7 @@ fn main(rt: HostRuntime) -> io::Result<()> {
         "backward, the branching picker",
         &mut backward,
         &branching,
-    )
+    )?;
+    println!(rt; "a slip of another case")?;
+    report_foreign(&rt)
 }
