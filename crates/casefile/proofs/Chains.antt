@@ -96,7 +96,6 @@ module _ {D : Type 0} (c : Choice) (reach : D → Task → ℕ → ℕ → ℕ �
   progress_ended x y z out out' buf buf' long p (enough, short, past, same, kept) =
       (omega arith, (p.report, inl (short, rw same p.reads, rw same past), p.writes))
 
-
   -- where the report of a text can't be flushed
   pub unflushed
       : (x y : Stage D) (out out' : Option (List ℕ)) → ServesText c reach m text room x y out out' (Ok tt)

@@ -1,7 +1,7 @@
 -- What is found stays good, and a signed slip leaves a case that has a plan.
 use Rattle.std.proofs.Common.{◌≡◌, ℕ, Some, Option, sym, subst, inl, inr, arith}
 use Rattle.rules.specs.Sets.{◌⊆◌, ◌∪◌}
-use Rattle.rules.specs.Planning.{Task, Solvable, Blocked}
+use Rattle.rules.specs.Planning.{Task, Solvable}
 use Rattle.rules.proofs.Sets.{bits, bit_of_or}
 use Rattle.rules.proofs.Plans.{easier}
 use Rattle.rules.proofs.Forwards.{decided}

@@ -1,5 +1,5 @@
 -- Each call that is made as its contract says keeps the law, and so do lists of calls.
-use Rattle.std.proofs.Common.{◌≡◌, ℕ, ◌≤◌, Bool, true, false, cond, List, [], ◌∷◌, ◌++◌, length, get_or, replicate, take, Some, None, Ok, Err, IfOk, Option, Result, sym, refl, ap, ◌∙◌, subst, arith}
+use Rattle.std.proofs.Common.{◌≡◌, ℕ, ◌≤◌, true, false, List, [], ◌∷◌, ◌++◌, length, get_or, Ok, Err, IfOk, Result, sym, refl, ap, ◌∙◌, subst, arith}
 use Rattle.std.proofs.lemmas.Simd.{Each1-from_get_or}
 use Rattle.rules.specs.declared.refusal.Refusal.{Refusal}
 use Rattle.rules.specs.Sets.{Meets}
@@ -9,27 +9,24 @@ use Rattle.rules.specs.Refusals.{after, first_refusal}
 use Rattle.rules.proofs.Groups.{duality}
 use Rattle.deciders.specs.declared.row.Row.{Row}
 use Rattle.deciders.specs.declared.answer.DeciderFault.TheVariants.{BeyondReach}
-use Rattle.deciders.specs.declared.limits.SizeFault.{SizeFault}
 use Rattle.deciders.specs.Sizes.{size_refusal}
-use Rattle.deciders.specs.Reaching.{Same}
-use Rattle.waivers.specs.declared.change.Change.{Change}
 use Rattle.waivers.specs.declared.fault.FinderFault.{FinderFault}
 use Rattle.waivers.specs.declared.fault.FinderFault.TheVariants.{Case, Size, NoWaiver, Decider, ListFull}
-use Rattle.waivers.specs.Known.{Known, Listed}
+use Rattle.waivers.specs.Known.{Listed}
 use Rattle.waivers.specs.Changes.{refusal_of}
 use Rattle.waivers.specs.declared.known.search.Found.{Found}
-use Rattle.waivers.specs.Searching.{Choice, Ended, Searches, Solved, Stopped, with_groups}
+use Rattle.waivers.specs.Searching.{Choice, Ended}
 use Rattle.waivers.proofs.Keep.{none_listed, changed_listed}
 use Rattle.cases.specs.declared.slip.SlipData.{SlipData}
 use Rattle.cases.specs.Plain.{Plain, unopened}
 use Rattle.cases.specs.Calls.{Asked, Opening, Changing, Finding, Drawing, Signing, Tearing, AnswerTo, Entry, Sought}
-use Rattle.cases.specs.Refusing.{usable_refusal, case_refusal, of_case, of_size, refused, drawing, slip_of}
-use Rattle.cases.specs.State.{State, fresh, known_of, state_opened, state_changed, state_signed, state_with_slip}
-use Rattle.cases.specs.Finding.{answer_to, set_found, FindsBySearch, FindsUnless}
-use Rattle.cases.specs.Making.{MadeOrRefused, Makes, Made, unmade, then}
-use Rattle.cases.specs.Replay.{given, turned_down, refusal_in, rule, unless, next, replay, after_calls}
-use Rattle.cases.specs.Law.{FoundTruly, IsWaiver, IsFull, Promised, Keeps, Runs, none, more, Law}
-use Rattle.cases.proofs.Refused.{both_made, made_refused, refusing}
+use Rattle.cases.specs.Refusing.{usable_refusal, case_refusal, of_case, of_size, refused, slip_of}
+use Rattle.cases.specs.State.{State, known_of, state_opened, state_changed, state_signed, state_with_slip}
+use Rattle.cases.specs.Finding.{answer_to, FindsUnless}
+use Rattle.cases.specs.Making.{Makes, Made, unmade, then}
+use Rattle.cases.specs.Replay.{given, turned_down, rule, unless, next, after_calls}
+use Rattle.cases.specs.Law.{FoundTruly, Keeps, none, more, Law}
+use Rattle.cases.proofs.Refused.{both_made, refusing}
 use Rattle.cases.proofs.Staying.{replay_more}
 
 -- ---- a call that the case refuses or makes, without a search

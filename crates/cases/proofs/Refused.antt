@@ -1,5 +1,5 @@
 -- What a refusal, or none, says of the case that met a call.
-use Rattle.std.proofs.Common.{◌≡◌, ℕ, Bool, true, false, cond, ◌&&◌, T, eqb, List, length, Some, None, Ok, Err, Option, Result, unwrap_or, sym, refl, ap, ◌∙◌, subst, arith, eqb→eq}
+use Rattle.std.proofs.Common.{◌≡◌, ℕ, Bool, true, false, cond, ◌&&◌, T, eqb, Some, None, Ok, Err, Option, Result, unwrap_or, sym, refl, ap, ◌∙◌, subst, arith, eqb→eq}
 use Rattle.std.proofs.lemmas.Bool.{and_parts}
 use Rattle.std.specs.Option.{option_eq}
 use Rattle.rules.specs.declared.refusal.Refusal.{Refusal}
@@ -7,14 +7,14 @@ use Rattle.rules.specs.declared.refusal.Refusal.TheVariants.{Unopened, SlipOut, 
 use Rattle.rules.specs.Refusals.{first_refusal, after}
 use Rattle.deciders.specs.declared.limits.SizeFault.{SizeFault}
 use Rattle.waivers.specs.declared.fault.FinderFault.{FinderFault}
-use Rattle.waivers.specs.declared.fault.FinderFault.TheVariants.{Case, Size, NoWaiver, Decider, ListFull}
+use Rattle.waivers.specs.declared.fault.FinderFault.TheVariants.{Case, Size}
 use Rattle.cases.specs.declared.slip.SlipData.{SlipData}
 use Rattle.cases.specs.Plain.{Plain}
-use Rattle.cases.specs.Calls.{Asked, Opening, Changing, Finding, Drawing, Signing, Tearing, AnswerTo, Entry}
+use Rattle.cases.specs.Calls.{Drawing, Signing, Entry}
 use Rattle.cases.specs.Refusing.{usable_refusal, slip_of, is_out, case_refusal, of_case, of_size, refused}
 use Rattle.cases.specs.State.{State, state_with_slip}
 use Rattle.cases.specs.Making.{Draws}
-use Rattle.cases.specs.Replay.{turned_down, rule, unless, next}
+use Rattle.cases.specs.Replay.{rule, unless, next}
 
 pub true_false : {A : Type 0} → true ≡ false → A
 true_false e = absurd (let z : ◌≡◌ {A = ℕ} 0 1 = cc in omega arith)

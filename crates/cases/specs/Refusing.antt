@@ -1,5 +1,5 @@
 -- When a plain case refuses a call.
-use Rattle.std.specs.Prelude.{ℕ, Bool, cond, ◌&&◌, List, length, unwrap_or, Some, None, Ok, Err, Option, Result, ◌==◌}
+use Rattle.std.specs.Prelude.{Bool, cond, ◌&&◌, length, unwrap_or, Some, Ok, Err, Result, ◌==◌}
 use Rattle.std.specs.Option.{option_eq}
 use Rattle.rules.specs.declared.refusal.Refusal.{Refusal}
 use Rattle.rules.specs.declared.refusal.Refusal.TheVariants.{Unopened, AlreadyOpen, SlipOut, NoFinding, WrongSlip}

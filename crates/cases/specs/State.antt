@@ -1,5 +1,5 @@
 -- A case in plain terms: a plain case with its group list; and what accepted calls make of both.
-use Rattle.std.specs.Prelude.{ℕ, Bool, true, false, List, [], None, Option}
+use Rattle.std.specs.Prelude.{ℕ, Bool, false, List, [], None, Option}
 use Rattle.waivers.specs.declared.change.Change.{Change}
 use Rattle.waivers.specs.Known.{Known}
 use Rattle.waivers.specs.Changes.{task_after, fate_of, groups_after, task_opened, task_waived}

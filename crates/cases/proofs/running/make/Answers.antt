@@ -1,12 +1,11 @@
-use Rattle.std.proofs.Common.{ℕ, Some, ap, sym, subst, refl, ◌∙◌, vec_items, length}
+use Rattle.std.proofs.Common.{ap, sym, subst, refl, ◌∙◌, vec_items}
 use Rattle.std.specs.Vec.{with_items}
 use Rattle.waivers.proofs.Keep.{listed}
 use Rattle.cases.specs.declared.call.Answer.TheVariants.{Done, Found, Drawn}
 use Rattle.cases.specs.Plain.{Plain}
-use Rattle.cases.specs.Calls.{Entry, Opening, Changing, Finding, Drawing, Signing, Tearing, entry_of}
+use Rattle.cases.specs.Calls.{Opening, Changing, Finding, Drawing, Signing, Tearing, entry_of}
 use Rattle.cases.specs.Slips.{InHand}
 use Rattle.cases.specs.View.{view}
-use Rattle.cases.specs.Making.{Makes}
 use Rattle.cases.proofs.Keeping.{keeps}
 use Rattle.cases.proofs.Staying.{hand_stays}
 use Rattle.cases.proofs.Recording.{found_in}

@@ -1,4 +1,4 @@
-use Rattle.std.proofs.Common.{◌≡◌, Ok, Err, Result, sym, ap, ◌∙◌, subst}
+use Rattle.std.proofs.Common.{◌≡◌, Ok, Result, sym, ap, ◌∙◌, subst}
 use Rattle.rules.specs.declared.refusal.Refusal.{Refusal}
 use Rattle.cases.specs.declared.slip.Slip.{Slip}
 use Rattle.cases.specs.Calls.{Signing}
