@@ -1,4 +1,5 @@
--- A text, read line by line from its beginning to its end, and the report of it.
+-- A text, read line by line from its beginning to its end, and the report of it. (c is the picker's
+-- choice, reach the decider's reach, m its mark; room is how many bytes the report buffer has.)
 use Rattle.std.specs.Prelude.{◌≡◌, ℕ, ◌⊎◌, ◌<◌, ◌≤◌, List, [], ◌++◌, length, Ok, Err, Option, Result}
 use Rattle.std.specs.Io.KnownBytes.{Keeps, Appends}
 use Rattle.rules.specs.Planning.{Task}
@@ -34,16 +35,17 @@ Writes line out out' (Ok u) = Appends out out' line
 Writes line out out' (Err (serve_fault.Unread e)) = ⊥
 Writes line out out' (Err (serve_fault.Output e)) = Unit {0}
 
--- the report line of a text that is too long is written; a buffer that is too short ends it
+-- the report line of a text that is too long is written; where the buffer is too short, that is the
+-- answer, and nothing is written
 abbrev pub Reports : ReadFault → List ℕ → Option (List ℕ) → Option (List ℕ)
     → Result Unit ServeFault → Type 0
 Reports TextTooLong line out out' r = Writes line out out' r
 Reports BufferTooShort line out out' r =
     (r ≡ Err (serve_fault.Unread BufferTooShort)) × Keeps out out'
 
--- what serving a text comes to: the writer then holds the whole report too; or the report buffer was
--- too short, and nothing was read or written; or it ended with an output error: some lines were read,
--- and what the writer then holds is not said
+-- what serving a text comes to: the writer then holds the whole report too; or the report buffer
+-- was too short, and nothing was read or written; or it ended with an output error: some lines,
+-- perhaps none, were read, and what the writer then holds is not said
 abbrev pub ServesText : {D : Type 0} → Choice → (D → Task → ℕ → ℕ → ℕ → Type 0) → ℕ → List ℕ → ℕ
     → Stage D → Stage D → Option (List ℕ) → Option (List ℕ) → Result Unit ServeFault → Type 0
 ServesText c reach m text room x y out out' (Ok u) =

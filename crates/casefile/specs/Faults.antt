@@ -54,12 +54,13 @@ told_bytes kind line t =
       added = t.added;
     })
 
--- the bytes of the one report line of a text that is too long: it is of no line, so its kind and its
--- line are 0
+-- the bytes of the one report line of a text that is too long: it is of no line, so its kind and
+-- its line are 0
 abbrev pub too_long_bytes : List ℕ
 too_long_bytes = told_bytes 0 0 (told_unread TextTooLong)
 
--- how long the report line is that a fault leaves in the buffer; one that is too short is left as it is
+-- how long the report line is that a fault leaves in the buffer; a buffer that is too short is left
+-- as it is
 abbrev pub reported_length : ReadFault → ℕ
 reported_length BufferTooShort = 0
 reported_length TextTooLong = length (report_line too_long_bytes)

@@ -16,11 +16,11 @@ use waivers::FinderFault;
 /// Why a line is refused. The fault of a layer below is kept whole.
 #[derive(Clone, Copy, PartialEq, Eq, Debug)]
 pub enum LineFault {
-    /// The line holds no frame that is served.
+    /// The line holds no frame.
     Frame(FrameFault),
     /// The case refuses the call.
     Case(Refusal),
-    /// Find ends without a set.
+    /// Find is refused, or ends without a set.
     Finder(FinderFault),
 }
 

@@ -54,7 +54,8 @@ fn reply_to(made: Result<(), Refusal>) -> Result<Reply, LineFault>
 }
 
 impl<D: Decider, P: Picker> Desk<'_, D, P> {
-    /// Makes the call that a frame asks for.
+    /// Makes the call that a frame asks for. A refused call is answered by `LineFault::Case`, and a find without a set by
+    /// `LineFault::Finder`.
     pub fn serve(&mut self, frame: &Frame) -> Result<Reply, LineFault>
         ensures same { KeepsLoans self.old self.new }
         ensures reach { KeepsReach D.reach self.old self.new }

@@ -26,8 +26,8 @@ pub record Sought : Type 0 where
   pub sheet : List Row
   pub book : List ℕ
 
--- what is answered to a call: find has its answer, draw what the slip says or why there is none, and
--- any other whether it was made
+-- what is answered to a call: find has its answer, draw what the slip says or why there is none,
+-- and any other whether it was made
 abbrev pub AnswerTo : Asked → Type 0
 AnswerTo (Finding s b) = Sought
 AnswerTo Drawing = Result SlipData Refusal

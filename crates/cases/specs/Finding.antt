@@ -33,7 +33,7 @@ pub record FindsBySearch (c : Choice) (R : ℕ → Type 0) (m : ℕ) (k : State)
   pub places : IsWipedFrom (plan_length found) a.book
   pub book : length a.book ≡ length b
 
--- a find is refused for o and changes nothing, or searches
+-- a find is refused, and changes nothing, or searches
 abbrev pub FindsUnless : Result Unit FinderFault → Choice → (ℕ → Type 0) → ℕ → State
     → List Row → List ℕ → Sought → State → Type 0
 FindsUnless (Err e) c R m k s b a k' =

@@ -34,6 +34,7 @@ pub record IsFull (p : Task) (gs : List ℕ) : Type 0 where
 
 -- What find's answer says of the task p that it met. R says which sets are in reach, m is the
 -- decider's mark, gs are the groups that are listed then, and b is the book that is handed back.
+-- Of a refused find it says nothing.
 abbrev pub FoundTruly : (ℕ → Type 0) → ℕ → Task → List ℕ → List ℕ
     → Result (ℕ × ℕ × ℕ) FinderFault → Type 0
 FoundTruly R m p gs b (Ok (s, count, n)) = IsWaiver p b s count n
@@ -50,22 +51,22 @@ FoundTruly R m p gs b (Err (ListFull h)) = IsFull p gs
 -- and a signed slip leaves a case that has a plan.
 abbrev pub Promised : (Task → ℕ → ℕ → ℕ → Type 0) → ℕ → Plain → (x : Asked) → AnswerTo x
     → Plain → List ℕ → Type 0
-Promised R m p (Finding s b) a p' gs =
-    FoundTruly (λ x. R p.task x (length s) (length b)) m p.task gs a.book a.result
-Promised R m p Drawing r p' gs = r ≡ drawing p
-Promised R m p (Signing slip) r p' gs = IfOk r (λ u. Solvable p'.task 0)
-Promised R m p x r p' gs = Unit {0}
+Promised reach m p (Finding s b) a p' gs =
+    FoundTruly (λ x. reach p.task x (length s) (length b)) m p.task gs a.book a.result
+Promised reach m p Drawing r p' gs = r ≡ drawing p
+Promised reach m p (Signing slip) r p' gs = IfOk r (λ u. Solvable p'.task 0)
+Promised reach m p x r p' gs = Unit {0}
 
 -- One call x and its answer: the program's case was k before it and is k' after it, and the plain
 -- case was p and is p'. The call did what its own contract says; the case holds the plain case's
 -- state; it refused as the plain case does; what the call promises holds; and each listed group is
 -- a group of the case as it now stands, none twice, and there are at most 64.
-pub record Keeps (c : Choice) (R : Task → ℕ → ℕ → ℕ → Type 0) (m : ℕ) (p p' : Plain) (k : State)
+pub record Keeps (c : Choice) (reach : Task → ℕ → ℕ → ℕ → Type 0) (m : ℕ) (p p' : Plain) (k : State)
     (x : Asked) (r : AnswerTo x) (k' : State) : Type 0 where
-  pub makes : Makes c R m k x r k'
+  pub makes : Makes c reach m k x r k'
   pub state : k'.plain ≡ p'
   pub refusal : refusal_in x r ≡ refused p x
-  pub promise : Promised R m p x r p' k'.groups
+  pub promise : Promised reach m p x r p' k'.groups
   pub listed : Listed (known_of k')
 
 -- ---- lists of calls

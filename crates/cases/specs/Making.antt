@@ -15,8 +15,8 @@ use Rattle.cases.specs.Finding.{Finds}
 
 -- ---- the single calls: of the case k before, the answer r, and the case k' after
 
--- A call that the case may refuse for o and else turns into f k: its answer says which, and a
--- refusal changes nothing.
+-- A call that is refused for o, if o refuses, and else makes f k of the case k: its answer says
+-- which, and a refusal changes nothing.
 pub record MadeOrRefused (o : Result Unit Refusal) (f : State → State) (k : State)
     (r : Result Unit Refusal) (k' : State) : Type 0 where
   pub answer : r ≡ o
@@ -44,9 +44,10 @@ pub record Signs (slip : SlipData) (k : State) (r : Result Unit Refusal) (k' : S
 
 -- tear
 abbrev pub Tears : SlipData → State → Result Unit Refusal → State → Type 0
-Tears slip k r k' = MadeOrRefused (case_refusal k.plain (Tearing slip)) (state_with_slip false) k r k'
+Tears slip k r k' =
+    MadeOrRefused (case_refusal k.plain (Tearing slip)) (state_with_slip false) k r k'
 
--- draw, and then sign with the slip that was drawn
+-- draw, and then sign with the slip that was drawn; or a draw that is refused
 abbrev pub DrawsAndSigns : State → Result Unit Refusal → State → Type 0
 DrawsAndSigns k (Ok u) k' =
     (slip : SlipData) × (drawn : State) × Draws k (Ok slip) drawn × Signs slip drawn (Ok tt) k'
@@ -54,21 +55,22 @@ DrawsAndSigns k (Err e) k' = Draws k (Err e) k'
 
 -- ---- any call
 
--- a call x on the case k, its answer and the case that it leaves (c is the picker's choice, R the
--- decider's reach, m its mark); after find each listed group is a group of the case, none twice
+-- a call x on the case k, its answer and the case that it leaves (c is the picker's choice, reach
+-- the decider's reach, m its mark); after find each listed group is a group of the case, none
+-- twice, at most 64
 abbrev pub Makes : Choice → (Task → ℕ → ℕ → ℕ → Type 0) → ℕ → State → (x : Asked) → AnswerTo x
     → State → Type 0
-Makes c R m k (Opening number n s o) r k' = Opens number n s o k r k'
-Makes c R m k (Changing x) r k' = Changes x k r k'
-Makes c R m k (Finding s b) a k' =
-    Finds c (λ x. R k.plain.task x (length s) (length b)) m k s b a k' × Listed (known_of k')
-Makes c R m k Drawing r k' = Draws k r k'
-Makes c R m k (Signing slip) r k' = Signs slip k r k'
-Makes c R m k (Tearing slip) r k' = Tears slip k r k'
+Makes c reach m k (Opening number n s o) r k' = Opens number n s o k r k'
+Makes c reach m k (Changing x) r k' = Changes x k r k'
+Makes c reach m k (Finding s b) a k' =
+    Finds c (λ x. reach k.plain.task x (length s) (length b)) m k s b a k' × Listed (known_of k')
+Makes c reach m k Drawing r k' = Draws k r k'
+Makes c reach m k (Signing slip) r k' = Signs slip k r k'
+Makes c reach m k (Tearing slip) r k' = Tears slip k r k'
 
 -- Calls on a fresh case, first to last, each made as its own contract says: es are the calls with
--- their answers, d is the decider and k the case that they leave. Each find has the reach of the
--- decider as it then is, and leaves a decider of the same reach.
+-- their answers, d is the decider and k the case that they leave. Each call is made at the reach of
+-- the decider as it then is, and leaves a decider of the same reach.
 pub data Made {D : Type 0} (c : Choice) (reach : D → Task → ℕ → ℕ → ℕ → Type 0) (m : ℕ)
     (first : D) : List Entry → D → State → Type 0 where
   unmade : Made c reach m first [] first fresh

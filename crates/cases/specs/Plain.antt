@@ -17,8 +17,8 @@ pub record Plain : Type 0 where
 abbrev pub unopened : Plain
 unopened = record { number = 0; task = nothing.task; finding = None; slip_out = false }
 
--- what was found is a good set: waivable, and with it struck out the task is not blocked, so that it
--- has a plan, since whether it has one is decided (a field of a type has to be a proposition, which
--- 'not blocked' is, and 'there is a plan' is not)
+-- what was found is a good set: waivable, and with it struck out the task is not blocked, so that
+-- it has a plan, since whether it has one is decided (a field of a type has to be a proposition,
+-- which 'not blocked' is, and 'there is a plan' is not)
 abbrev pub HasGoodFinding : Task → Option ℕ → Type 0
 HasGoodFinding p o = (s : ℕ) → o ≡ Some s → (s ⊆ waivable p) × (Blocked p s → ⊥)

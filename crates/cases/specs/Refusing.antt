@@ -15,11 +15,11 @@ use Rattle.cases.specs.Calls.{Asked, Opening, Changing, Finding, Drawing, Signin
 
 -- ---- whether the case takes calls
 
--- the case is opened
+-- why an unopened case is refused
 abbrev pub opened_refusal : Plain → Result Unit Refusal
 opened_refusal p = cond (p.task.n == 0) (Err Unopened) (Ok tt)
 
--- the case is opened, and no slip is out
+-- why a case is refused that is unopened, or of which a slip is out
 abbrev pub usable_refusal : Plain → Result Unit Refusal
 usable_refusal p = first_refusal (opened_refusal p) (cond p.slip_out (Err SlipOut) (Ok tt))
 
@@ -37,7 +37,7 @@ admission p x = usable_refusal p
 abbrev pub slip_of : Plain → SlipData
 slip_of p = record { number = p.number; «set» = unwrap_or p.finding 0 }
 
--- a slip that says this is the one that is out
+-- the test whether a slip is out that says this
 abbrev pub is_out : Plain → SlipData → Bool
 is_out p slip =
     p.slip_out && (p.number == slip.number && option_eq ◌==◌ p.finding (Some slip.«set»))

@@ -21,7 +21,7 @@ abbrev pub decision_of : Result Unit (Slip × Refusal) → Result Unit Refusal
 decision_of (Ok u) = Ok tt
 decision_of (Err (slip, e)) = Err e
 
--- The slip in hand is the one that the case takes; where none is in hand, none is out.
+-- The slip in hand is one that the case takes; where none is in hand, none is out.
 abbrev pub InHand : Plain → Option Slip → Type 0
 InHand p None = p.slip_out ≡ false
 InHand p (Some slip) = case_refusal p (Signing (content_of slip)) ≡ Ok tt

@@ -21,7 +21,7 @@ known_of k = record { task = k.plain.task; groups = k.groups }
 
 -- ---- what accepted calls make of the plain case
 
--- open sets number, number of facts, standing and order
+-- open sets number, number of facts, standing and order, and the finding is forgotten
 abbrev pub plain_opened : ℕ → ℕ → ℕ → ℕ → Plain → Plain
 plain_opened number n s o p =
     record p { number = number; task = task_opened n s o p.task; finding = None }
@@ -40,7 +40,8 @@ with_slip b p = record p { slip_out = b }
 
 -- sign waives the set and forgets the finding, and the slip is in
 abbrev pub plain_signed : SlipData → Plain → Plain
-plain_signed slip p = record p { task = task_waived slip.«set» p.task; finding = None; slip_out = false }
+plain_signed slip p =
+    record p { task = task_waived slip.«set» p.task; finding = None; slip_out = false }
 
 -- ---- and of the group list
 

@@ -16,7 +16,8 @@ CallsKeepTheLaw {D} reach m =
     (c : Choice) (first : D) (es : List Entry) (d : D) (k : State)
     → Made c reach m first es d k → Law c reach m first es d k
 
--- And where the calls so far kept it, one more call does, whichever decider and picker it is made with.
+-- Where the case holds what the calls so far make of a fresh one, and lists only its groups, one
+-- more call keeps the law, whichever decider and picker it is made with.
 abbrev pub NextCallKeepsTheLaw : {D : Type 0} → (D → Task → ℕ → ℕ → ℕ → Type 0) → ℕ → Type 0
 NextCallKeepsTheLaw {D} reach m =
     (c : Choice) (d : D) (es : List Entry) (k : State) (e : Entry) (k' : State)
@@ -24,8 +25,8 @@ NextCallKeepsTheLaw {D} reach m =
     → Makes c (reach d) m k e.asked e.answered k'
     → Keeps c (reach d) m (after_calls es) (after_calls (es ++ e ∷ [])) k e.asked e.answered k'
 
--- While a slip is out, no call changes anything, unless it takes the slip in. So number and finding
--- are still those that it was drawn for.
+-- While a slip is out, no call changes the plain case, unless it takes the slip in. So number and
+-- finding are still those that it was drawn for.
 abbrev pub SlipsStay : Type 0
 SlipsStay =
     (es : List Entry) (e : Entry)

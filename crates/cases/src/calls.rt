@@ -9,6 +9,8 @@ use waivers::Change;
 
 impl Case {
     /// Makes a change of an opened case of which no slip is out. What was found before it is forgotten.
+    ///
+    /// Refused: `Unopened`, `SlipOut`, then as the change is. A refusal changes nothing, here and below.
     pub fn change(&mut self, change: Change) -> Result<(), Refusal>
         ensures { Changes change (view self.old) result (view self.new) }
     {
@@ -18,21 +20,22 @@ impl Case {
         Ok(())
     }
 
-    /// Adds facts to the standing.
+    /// Adds facts to the standing. Refused: `Unopened`, `SlipOut`, `UnknownFact`.
     pub fn grant(&mut self, set: Facts) -> Result<(), Refusal>
         ensures { Changes (Change.Grant «set») (view self.old) result (view self.new) }
     {
         self.change(Change::Grant(set))
     }
 
-    /// Removes facts from the standing.
+    /// Removes facts from the standing. Refused: `Unopened`, `SlipOut`, `UnknownFact`.
     pub fn lapse(&mut self, set: Facts) -> Result<(), Refusal>
         ensures { Changes (Change.Lapse «set») (view self.old) result (view self.new) }
     {
         self.change(Change::Lapse(set))
     }
 
-    /// Puts a step of three sets into an empty place.
+    /// Puts a step of three sets into an empty place, numbered from 0 to 63. Refused: `Unopened`, `SlipOut`, `UnknownFact`,
+    /// `GivesAndTakes`, `NoSuchPlace`, `PlaceTaken`.
     pub fn put(
         &mut self,
         place: u8,
@@ -51,28 +54,29 @@ impl Case {
         })
     }
 
-    /// Empties a place that holds a step.
+    /// Empties a place that holds a step. Refused: `Unopened`, `SlipOut`, `NoSuchPlace`, `PlaceEmpty`.
     pub fn withdraw(&mut self, place: u8) -> Result<(), Refusal>
         ensures { Changes (Change.Withdraw place) (view self.old) result (view self.new) }
     {
         self.change(Change::Withdraw(place))
     }
 
-    /// MadeOrRefused a step for good, if its needs outside the waived facts stand.
+    /// Does a step for good, if its needs outside the waived facts stand. Refused: `Unopened`, `SlipOut`, `NoSuchPlace`,
+    /// `PlaceEmpty`, `NeedMissing`.
     pub fn carry(&mut self, place: u8) -> Result<(), Refusal>
         ensures { Changes (Change.Carry place) (view self.old) result (view self.new) }
     {
         self.change(Change::Carry(place))
     }
 
-    /// Adds facts to the order.
+    /// Adds facts to the order. Refused: `Unopened`, `SlipOut`, `UnknownFact`, `WaivedFact`.
     pub fn order(&mut self, set: Facts) -> Result<(), Refusal>
         ensures { Changes (Change.Order «set») (view self.old) result (view self.new) }
     {
         self.change(Change::Order(set))
     }
 
-    /// Removes facts from the order.
+    /// Removes facts from the order. Refused: `Unopened`, `SlipOut`, `UnknownFact`.
     pub fn cancel(&mut self, set: Facts) -> Result<(), Refusal>
         ensures { Changes (Change.Cancel «set») (view self.old) result (view self.new) }
     {

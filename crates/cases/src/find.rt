@@ -16,7 +16,11 @@ use waivers::FinderFault;
 impl Case {
     // Kept: decider, picker, sheet and book as loans of their own, as in the search; a tuple for the answer is a rule of the project.
     /// A smallest set of waivable facts that leaves a solvable case when struck out: the set, its size, and the length
-    /// of the plan that is then in the book. The case keeps the set as its finding.
+    /// of the plan that is then in the book. The case keeps the set as its finding. The size counts facts, the length places.
+    ///
+    /// Refused for the case (`FinderFault::Case`), or for sheet or book (`Size`), and then nothing changes. Ends without a set
+    /// by `NoWaiver`, `Decider` or `ListFull`: then the finding is forgotten, and the groups that were entered stay. In all ends
+    /// the rows are zero and the places of the book past the plan are 255.
     pub fn find<D: Decider, P: Picker>(
         &mut self,
         decider: &mut D,

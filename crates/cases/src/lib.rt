@@ -1,4 +1,4 @@
-//! The case: its calls, the plan check and find.
+//! The case: its calls, the plan check, slips, and lists of calls.
 
 #![tactic(auto)]
 

@@ -14,6 +14,8 @@ use waivers::KnownGroups;
 
 impl Case {
     /// A fresh case, unopened. It reserves the room for its group list, so that no later call needs memory.
+    ///
+    /// Fails where there is no memory.
     pub fn new(heap: Global) -> Result<Case, AllocError>
         ensures fresh { IfOk result (λ k. view k ≡ fresh) }
         ensures room { IfOk result HasRoom }
@@ -55,7 +57,8 @@ impl Case {
         Ok(())
     }
 
-    /// Opens the case: sets its number, the number of facts, the standing and the order.
+    /// Opens the case: sets its number, the number of facts, the standing and the order. Refused: `AlreadyOpen`, `FactCount`,
+    /// `UnknownFact`.
     pub fn open(&mut self, number: u32, n: u8, standing: Facts, order: Facts) -> Result<(), Refusal>
         ensures { Opens number n standing order (view self.old) result (view self.new) }
     {
@@ -69,6 +72,8 @@ impl Case {
     }
 
     /// Whether the places are a plan of the case with the facts of `strike` struck out, and if not, why. The case stays as it is.
+    ///
+    /// Refused: `Unopened`, `UnknownFact`.
     pub fn check_plan(&mut self, strike: Facts, places: &[u8]) -> Result<PlanCheck, Refusal>
         ensures says { PlanChecked (view self.old).plain strike places.now result }
         ensures same { view self.new ≡ view self.old }

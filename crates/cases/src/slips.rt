@@ -14,7 +14,8 @@ use crate::slip::{Slip, SlipData};
 use rules::Refusal;
 
 impl Case {
-    /// Draws a slip for the finding. While it is out, the case refuses every call but sign, tear and the plan check.
+    /// Draws a slip for the finding. While it is out, the case refuses every call but sign, tear and the plan check. Refused:
+    /// `Unopened`, `SlipOut`, `NoFinding`.
     pub fn draw(&mut self) -> Result<Slip, Refusal>
         ensures { Draws (view self.old) (drawn_content result) (view self.new) }
     {
@@ -55,7 +56,7 @@ impl Case {
     }
 
     /// Signs a slip: its set is waived, the finding is forgotten and the group list emptied, and the case has a plan. A refusal
-    /// hands the slip back.
+    /// hands the slip back: `Unopened`, `WrongSlip`.
     pub fn sign(&mut self, slip: Slip) -> Result<(), (Slip, Refusal)>
         ensures signs { Signs (content_of slip)
             (view self.old) (decision_of result) (view self.new) }
@@ -68,7 +69,7 @@ impl Case {
         Ok(())
     }
 
-    /// Tears a slip: only that it is in changes. A refusal hands the slip back.
+    /// Tears a slip: only that it is in changes. A refusal hands the slip back: `Unopened`, `WrongSlip`.
     pub fn tear(&mut self, slip: Slip) -> Result<(), (Slip, Refusal)>
         ensures tears { Tears (content_of slip)
             (view self.old) (decision_of result) (view self.new) }
@@ -84,7 +85,8 @@ impl Case {
         }
     }
 
-    /// Draws a slip for the finding and signs it at once; the case has a plan then. Once it is drawn, it can't be refused.
+    /// Draws a slip for the finding and signs it at once; the case has a plan then. Once it is drawn, it can't be
+    /// refused. Refused: `Unopened`, `SlipOut`, `NoFinding`.
     pub fn draw_and_sign(&mut self) -> Result<(), Refusal>
         ensures both { DrawsAndSigns (view self.old) result (view self.new) }
         ensures plan { IfOk result (λ u. Solvable (view self.new).plain.task 0) }

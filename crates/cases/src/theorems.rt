@@ -10,7 +10,8 @@ pub fn calls_keep_the_law<D: Decider>()
     ensures { CallsKeepTheLaw D.reach D.MARK }
 {}
 
-/// One call more keeps the law, whichever decider of this type and whichever picker it is made with.
+/// On a case that holds what the calls so far make of a fresh one, and lists only its groups, one call more keeps the law, whichever
+/// decider of this type and whichever picker it is made with.
 pub fn next_call_keeps_the_law<D: Decider>()
     ensures { NextCallKeepsTheLaw D.reach D.MARK }
 {}

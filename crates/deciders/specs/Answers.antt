@@ -15,9 +15,9 @@ reported (BeyondReach s k) = (21, 4, s, k)
 abbrev pub same_fault : DeciderFault → DeciderFault → Bool
 same_fault = eq_of_both (on (λ e. (reported e).2) ◌==◌) (on (λ e. (reported e).3) ◌==◌)
 
--- The answer to a query for the task p without x, with m rows, and what the plan book holds before and after.
--- R says whether the query is in reach. Inside it, the answer is solvable with a plan, or blocked, and there is no plan;
--- outside it, a fault.
+-- The answer to a query for the task p without x, with m rows, and what the plan book holds before
+-- and after. R says whether the query is in reach. Inside it, the answer is solvable with a plan,
+-- or blocked, and there is no plan; outside it, a fault.
 abbrev pub Answers : Type 0 → ℕ → Task → ℕ → ℕ
     → List ℕ → List ℕ → Result Verdict DeciderFault → Type 0
 Answers R mark p x m book book' (Ok (verdict.Solvable k)) =

@@ -5,7 +5,8 @@ use Rattle.std.specs.Prelude.{◌≡◌, ℕ, ◌+◌, ◌-◌, ◌*◌, ◌/◌
 unfoldable pub hash_of : ℕ → ℕ
 hash_of s = s * 2654435769 % 2 ^ 32 / 2 ^ 20
 
--- Entries are numbered from a start on, and a lower number stands for none. A link is one more than the entry of a number, or 0.
+-- Entries are numbered from a start on, and a lower number stands for none. A link is one more than
+-- the entry of a number, or 0.
 abbrev pub link : ℕ → ℕ → ℕ
 link start number = number + 1 - start
 

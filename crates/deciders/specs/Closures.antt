@@ -15,8 +15,8 @@ Closed ts s c = (s ⊆ c) × Under ts c
 abbrev pub Closure : List (Option Step) → ℕ → ℕ → Type 0
 Closure ts s c = Closed ts s c × ((d : ℕ) → Closed ts s d → c ⊆ d)
 
--- One round of closing: r is c with the gives of those of the first n steps whose needs are in c, and with nothing but
--- what has to be there.
+-- One round of closing: r is c with the gives of those of the first n steps whose needs are in c,
+-- and with nothing but what has to be there.
 pub record Round (ts : List (Option Step)) (n c r : ℕ) : Type 0 where
   pub grows : c ⊆ r
   pub least : (d : ℕ) → Under ts d → c ⊆ d → r ⊆ d

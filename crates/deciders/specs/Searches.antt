@@ -36,8 +36,8 @@ Starts l l' = (length l ≤ length l') × ((i : ℕ) → i < length l → slice_
 abbrev pub Away : (ℕ → Type 0) → List Row → ℕ → Type 0
 Away Wanted sheet n = (i : ℕ) → i < n → Wanted (row sheet i).set → ⊥
 
--- What expanding the entry s of the list l leaves on the first n of m rows: the list that the rules say, a last row that is
--- wanted, or no free row.
+-- What expanding the entry s of the list l leaves on the first n of m rows: the list that the rules
+-- say, a last row that is wanted, or no free row.
 abbrev pub Expands : Successor → (ℕ → Type 0) → List Action → ℕ → ℕ → List ℕ
     → ℕ → List Row → ℕ → Result (Option ℕ) Unsettled → Type 0
 Expands f Wanted ws start s l m sheet n (Ok None) =
@@ -56,8 +56,8 @@ Expands f Wanted ws start s l m sheet n (Err e) =
     × Starts (entries sheet m) (expanded f (steps_of ws) s l)
     × (m < length (expanded f (steps_of ws) s l))
 
--- What a listing by the actions leaves when it stops: it is whole and nothing wanted is in it, its last row is wanted, or
--- no row is free.
+-- What a listing by the actions leaves when it stops: it is whole and nothing wanted is in it, its
+-- last row is wanted, or no row is free.
 abbrev pub Lists : Successor → (ℕ → Type 0) → List Action → ℕ
     → ℕ → List Row → ℕ → Result (Option ℕ) Unsettled → Type 0
 Lists f Wanted ws start m sheet n (Ok None) =
@@ -79,9 +79,9 @@ Lists f Wanted ws start m sheet n (Err e) =
 abbrev pub InReach : Successor → (ℕ → Type 0) → List (Option Step) → ℕ → ℕ → ℕ → Type 0
 InReach f Wanted ts start m b = Sized m b × Settles f ts start Wanted m
 
--- What a search with a mark answers for x with m rows, and what the plan book holds before and after: the places of a
--- path to an entry that is wanted, the last first; or that no entry of the whole listing is wanted; and a fault where the
--- rows do not settle it.
+-- What a search with a mark answers for x with m rows, and what the plan book holds before and
+-- after: the places of a path to an entry that is wanted, the last first; or that no entry of the
+-- whole listing is wanted; and a fault where the rows do not settle it.
 abbrev pub Finds : Successor → (ℕ → Type 0) → List (Option Step) → ℕ → ℕ → ℕ → ℕ
     → List ℕ → List ℕ → Result Verdict DeciderFault → Type 0
 Finds f Wanted ts start x mark m book book' (Ok (verdict.Solvable k)) =

@@ -15,7 +15,8 @@ abbrev pub size_layer : SizeFault → Layer
 size_layer Sheet = Finder
 size_layer Book = Finder
 
--- what breaks a limit: a sheet of no rows or of more than 4096, or else a book shorter than the sheet or above 4096 places
+-- what breaks a limit: a sheet of no rows or of more than 4096, or else a book shorter than the
+-- sheet or above 4096 places
 abbrev pub size_refusal : ℕ → ℕ → Result Unit SizeFault
 size_refusal m b =
     cond (m == 0 || nat_lt 4096 m) (Err Sheet)

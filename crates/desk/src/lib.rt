@@ -17,7 +17,7 @@ use std::io::{BufWriter, Read, Write};
 /// A text that fills this much is too long, however it goes on.
 const ROOM: usize = MAX_TEXT + 1;
 
-/// The bytes of the input, of which more than a text may have are not read.
+/// The bytes of the input, up to one more than a text may have.
 fn read_text<R: Read + Drop>(heap: Global, input: R) -> io::Result<Vec<u8>>
     ensures bounded { IfOk result (λ text. vec_len text ≤ 16385) }
     ensures bytes { IfOk result (λ text.
@@ -25,7 +25,7 @@ fn read_text<R: Read + Drop>(heap: Global, input: R) -> io::Result<Vec<u8>>
 {
     let mut text = Vec::new(heap);
     input.take(ROOM as u64).read_to_end(&mut text)?;
-    // whatever a reader says of itself
+    // for a reader that gives more than was taken of it
     text.truncate(ROOM);
     Ok(text)
 }
@@ -37,8 +37,9 @@ fn serve_gathered<D: Decider, P: Picker, W: Write + Drop>(
     buffer: &mut [u8],
     output: &mut BufWriter<W>,
 ) -> Result<(), ServeFault>
-    ensures serves { ServesTextAt P.choice D.reach D.MARK text.now (length buffer.old) desk.old desk.new
-        (writer_contents W.contents output.old) (writer_contents W.contents output.new) result }
+    ensures serves { ServesTextAt P.choice D.reach D.MARK text.now (length buffer.old)
+        desk.old desk.new (writer_contents W.contents output.old)
+        (writer_contents W.contents output.new) result }
     ensures gathered { IfOk result (λ _. writer_buffer output.new ≡ []) }
 {
     serve_text(text, desk, buffer, output)?;
@@ -47,6 +48,7 @@ fn serve_gathered<D: Decider, P: Picker, W: Write + Drop>(
 }
 
 /// Serves the case file on standard input: a screen over forward with 4,096 rows decides, and the counting picker picks.
+/// Fails for want of memory, or where input or output fails.
 pub fn serve_input(rt: &HostRuntime) -> anyhow::Result<()> {
     let heap = rt.alloc();
     let text = read_text(heap, rt.stdin())?;

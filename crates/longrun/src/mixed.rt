@@ -1,4 +1,4 @@
-//! All twelve calls, with every refusal of each.
+//! All twelve calls, with every refusal of each but list full.
 //!
 //! The case has five facts. Fact 1 stands, and facts 2 and 3 are ordered. The step at place 0 needs 1 and 2, gives 3 and takes 1; the
 //! one at place 1 needs 0 and gives 2. So the set of fact 0 is the only smallest good set, and every picker's answer.

@@ -6,7 +6,8 @@ use Rattle.rules.specs.declared.check.PlanCheck.TheVariants.{IsPlan, StopsAt, Mi
 use Rattle.rules.specs.Sets.{◌⊆◌, ◌∖◌}
 use Rattle.rules.specs.Planning.{Task, held, done, Plan, Walk}
 
--- what the place holds can't be done in the standing s: it holds nothing, as every place above 63, or a step that lacks a need
+-- what the place holds can't be done in the standing s: it holds nothing, as every place above 63,
+-- or a step that lacks a need
 abbrev pub Undoable : Option Step → ℕ → Type 0
 Undoable o s = (o ≡ None) ⊎ ((t : Step) × (o ≡ Some t) × (t.needs ⊆ s → ⊥))
 

@@ -8,7 +8,8 @@ use Rattle.rules.specs.Waivers.{Good, Group, Smallest, Hits}
 abbrev pub place_with : ℕ → ℕ → ℕ → Option Step
 place_with needs gives takes = Some (record { needs = needs; gives = gives; takes = takes })
 
--- Four facts; fact 1 stands and fact 3 is ordered. Step 0 needs 1 and 2, gives 3 and takes 1; step 1 needs 0 and gives 2.
+-- Four facts; fact 1 stands and fact 3 is ordered. Step 0 needs 1 and 2, gives 3 and takes 1; step
+-- 1 needs 0 and gives 2.
 abbrev pub C : Task
 C = record {
   n = 4;

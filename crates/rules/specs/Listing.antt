@@ -1,4 +1,5 @@
--- Listings: from a first entry on, each entry in turn adds what the steps make of it. Forward, an entry is a standing.
+-- Listings: from a first entry on, each entry in turn adds what the steps make of it. Forward, an
+-- entry is a standing.
 use Rattle.std.specs.Prelude.{◌≡◌, ℕ, zero, suc, ◌<◌, ◌≤◌, Bool, false, cond, ◌||◌, ◌⊎◌, List, [], ◌∷◌, ◌++◌, length, Some, None, Option, ◌==◌, nat_lt, slice_index, slice_index_or}
 use Rattle.rules.specs.Steps.{Step}
 use Rattle.rules.specs.Sets.{inside}
@@ -39,7 +40,8 @@ listing f ts start (suc k) =
 abbrev pub Whole : Successor → List (Option Step) → ℕ → ℕ → Type 0
 Whole f ts start m = length (listing f ts start m) ≤ m
 
--- m rows settle it: the whole listing has at most m entries, or an entry that is wanted is among the first m
+-- m rows settle it: the whole listing has at most m entries, or an entry that is wanted is among
+-- the first m
 abbrev pub Settles : Successor → List (Option Step) → ℕ → (ℕ → Type 0) → ℕ → Type 0
 Settles f ts start Wanted m =
     Whole f ts start m

@@ -4,7 +4,8 @@ use Rattle.rules.specs.Steps.{Step, IsClear}
 use Rattle.rules.specs.declared.problem.Problem.{Problem}
 use Rattle.rules.specs.Sets.{◌⊆◌, ◌∪◌, ◌∖◌}
 
--- What a case is planned over: the number of facts, the facts that stand, those ordered, those waived, and the steps by their places.
+-- What a case is planned over: the number of facts, the facts that stand, those ordered, those
+-- waived, and the steps by their places.
 pub record Task : Type 0 where
   pub n : ℕ
   pub standing : ℕ

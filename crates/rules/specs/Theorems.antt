@@ -34,7 +34,8 @@ abbrev pub Emptying : Type 0
 Emptying = (p : Task) (i x : ℕ) (l : List ℕ)
     → Plan (strike (with_steps p (slice_set p.steps i None)) x) l → Plan (strike p x) l
 
--- What is blocked stays blocked after a step is done for good whose needs outside the waived facts stand.
+-- What is blocked stays blocked after a step is done for good whose needs outside the waived facts
+-- stand.
 abbrev pub Doing : Type 0
 Doing = (p : Task) (i : ℕ) (t : Step) (x : ℕ) → held p i ≡ Some t → t.needs ∖ p.waived ⊆ p.standing
     → Blocked p x → Blocked (with_standing p (done t p.standing)) x
@@ -59,7 +60,8 @@ Hitting = (p : Task) (gs : List ℕ) (h : ℕ) → Each1 (λ g. Group p g) gs �
 abbrev pub NoWay : Type 0
 NoWay = (p : Task) (x : ℕ) → Group p 0 → Good p x → ⊥
 
--- The waivable facts outside a largest blocked set are a group, which shares no fact with that set, and no proper part of it is a group.
+-- The waivable facts outside a largest blocked set are a group, which shares no fact with that set,
+-- and no proper part of it is a group.
 abbrev pub LargestOutside : Type 0
 LargestOutside = (p : Task) (m : ℕ) → LargestBlocked p m
     → MinimalGroup p (waivable p ∖ m) × (Meets m (waivable p ∖ m) → ⊥)
@@ -109,7 +111,8 @@ abbrev pub ForwardWalks : Type 0
 ForwardWalks = (ts : List (Option Step)) (s : ℕ) (l : List ℕ) (e : ℕ)
     → Path forward ts s l e ↔ Walk ts s l e
 
--- A whole forward listing in which the order stands nowhere means that no plan of any length exists.
+-- A whole forward listing in which the order stands nowhere means that no plan of any length
+-- exists.
 abbrev pub WholeBlocked : Type 0
 WholeBlocked = (p : Task) (m : ℕ) → Whole forward p.steps p.standing m
     → ((i : ℕ) → i < length (standings p m) → p.order ⊆ slice_index_or (standings p m) i 0 → ⊥)

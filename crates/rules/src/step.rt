@@ -34,8 +34,8 @@ impl Model for Step {
 }
 
 impl Step {
-    /// The step of these sets. None gives a fact that it takes.
-    // Made once a set's facts are known and before its place is looked at: its refusal comes between those of the two.
+    /// The step of these sets. Refused: `GivesAndTakes`, where gives and takes share a fact.
+    // Put makes it once the facts of its sets are known and before it looks at the place: so its refusal comes between theirs.
     pub fn new(needs: Facts, gives: Facts, takes: Facts) -> Result<Step, Refusal>
         ensures made { IfOk result (λ t. t ≡ step_of needs gives takes) }
         ensures clear { IfOk result (λ _. step_refusal gives takes ≡ Ok tt) }

@@ -1,5 +1,5 @@
--- The calls that only change what is planned over: what refuses each, what it makes of the task, and
--- what becomes of the groups; and what open and sign make of task and groups.
+-- The calls that only change what is planned over: what refuses each, what it makes of the task,
+-- and what becomes of the groups; and what open and sign make of task and groups.
 use Rattle.std.specs.Prelude.{ℕ, cond, ◌||◌, List, [], fold, Some, None, Ok, Err, Option, Result, ◌==◌, nat_lt, slice_set}
 use Rattle.rules.specs.declared.refusal.Refusal.{Refusal}
 use Rattle.rules.specs.declared.refusal.Refusal.TheVariants.{FactCount, UnknownFact, NoSuchPlace, PlaceEmpty, NeedMissing, WaivedFact}
@@ -18,15 +18,16 @@ use Rattle.waivers.specs.Known.{Known}
 
 -- ---- what refuses a change
 
--- a set names only facts of the task
+-- why a set is refused: it names a fact that the task has not
 abbrev pub names_refusal : Task → ℕ → Result Unit Refusal
 names_refusal p s = cond (inside s (below p.n)) (Ok tt) (Err UnknownFact)
 
--- an order names no waived fact
+-- why an order is refused: it names a waived fact
 abbrev pub waived_refusal : Task → ℕ → Result Unit Refusal
 waived_refusal p s = cond ((s ∩ p.waived) == 0) (Ok tt) (Err WaivedFact)
 
--- a place holds a step that can be done for good: its needs outside the waived facts stand
+-- why what a place holds can't be done for good: it is empty, or a need outside the waived facts
+-- doesn't stand
 abbrev pub ready_refusal : Task → Option Step → Result Unit Refusal
 ready_refusal p None = Err PlaceEmpty
 ready_refusal p (Some t) = cond (inside (t.needs ∖ p.waived) p.standing) (Ok tt) (Err NeedMissing)
@@ -54,7 +55,8 @@ done_by (Some t) s = done t s
 abbrev pub task_after : Change → Task → Task
 task_after (change.Grant s) p = with_standing p (p.standing ∪ s)
 task_after (change.Lapse s) p = with_standing p (p.standing ∖ s)
-task_after (change.Put i needs gives takes) p = with_steps p (slice_set p.steps i (Some (step_of needs gives takes)))
+task_after (change.Put i needs gives takes) p =
+    with_steps p (slice_set p.steps i (Some (step_of needs gives takes)))
 task_after (change.Withdraw i) p = with_steps p (slice_set p.steps i None)
 task_after (change.Carry i) p = with_standing p (done_by (held p i) p.standing)
 task_after (change.Order s) p = with_order p (p.order ∪ s)
@@ -88,7 +90,7 @@ changed x k = record { task = task_after x k.task; groups = groups_after (fate_o
 
 -- ---- open and sign
 
--- a task has 1 to 32 facts, and its standing and its order name no others
+-- why a task can't be opened: it has 1 to 32 facts, and its standing and its order name no others
 abbrev pub open_refusal : ℕ → ℕ → ℕ → Result Unit Refusal
 open_refusal n s o =
     cond (n == 0 || nat_lt 32 n) (Err FactCount)

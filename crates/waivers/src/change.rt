@@ -34,7 +34,7 @@ pub enum Change {
 /// What becomes of the listed groups.
 #[derive(Clone, Copy, PartialEq, Eq, Debug)]
 pub(crate) enum Fate {
-    /// The list is emptied, since a group may be solvable now.
+    /// The list is emptied, since a listed set may be no group now.
     Emptied,
     /// All stay groups: what was blocked stays blocked.
     Kept,

@@ -84,6 +84,9 @@ impl Reading {
     /// Reads the next line of the text, makes the call that it asks for, and writes its report line to the front of the
     /// buffer, of which the rest stays. Says how many bytes the report line has, or that there is no further line. Of a text
     /// that is too long no line is read, and the report line says so.
+    ///
+    /// Refused: `BufferTooShort`, where the buffer has fewer than 8,209 bytes, and then nothing is read or written;
+    /// `TextTooLong`, where the text has more than 16,384.
     pub fn next<D: Decider, P: Picker>(
         &mut self,
         text: &[u8],

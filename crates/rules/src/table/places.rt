@@ -31,7 +31,7 @@ impl StepTable {
         *self.places.get(usize::from(place))?
     }
 
-    /// Fills an empty place. The other 63 places keep their steps.
+    /// Fills an empty place. The other 63 places keep their steps. Refused: `NoSuchPlace`, `PlaceTaken`.
     pub fn put(&mut self, place: u8, step: Step) -> Result<(), Refusal>
         ensures answer { result ≡ put_refusal self.old.places place }
         ensures after { self.new.places
@@ -49,7 +49,7 @@ impl StepTable {
         Ok(())
     }
 
-    /// Empties a place that holds a step. The other 63 places keep their steps.
+    /// Empties a place that holds a step. The other 63 places keep their steps. Refused: `NoSuchPlace`, `PlaceEmpty`.
     pub fn clear(&mut self, place: u8) -> Result<(), Refusal>
         ensures answer { result ≡ clear_refusal self.old.places place }
         ensures after { self.new.places

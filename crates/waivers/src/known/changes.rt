@@ -45,14 +45,15 @@ impl KnownGroups {
         self.groups.as_slice()
     }
 
-    /// Refuses a set that names a fact at or above the number of facts.
+    /// Refuses a set that names a fact at or above the number of facts: `UnknownFact`.
     pub fn check_names(&self, set: Facts) -> Result<(), Refusal>
         ensures { result ≡ names_refusal (known self.now).task «set» }
     {
         check_names(&self.problem, set)
     }
 
-    /// Sets the number of facts, the standing and the order; no group is known then.
+    /// Sets the number of facts, the standing and the order; no group is known then. Waived facts and steps stay. Refused:
+    /// `FactCount`, `UnknownFact`.
     // Kept: three arguments; a struct of them would be made for this one call, and taken apart in it.
     pub fn open(&mut self, n: u8, standing: Facts, order: Facts) -> Result<(), Refusal>
         ensures answer { result ≡ open_refusal n standing order }
@@ -65,14 +66,14 @@ impl KnownGroups {
         if !is_subset(standing | order, facts_below(n)) {
             return Err(Refusal::UnknownFact);
         }
-        self.groups.clear(); // a case without facts knows no groups; this only says so
+        self.groups.clear(); // what was listed were groups of the problem as it was
         self.problem.n = n;
         self.problem.standing.facts = standing;
         self.problem.order = order;
         Ok(())
     }
 
-    /// Makes a change, or refuses it. Groups that may be solvable then are forgotten.
+    /// Makes a change, or refuses it as the change is refused. Where listed sets may be no groups then, the list is emptied.
     pub fn change(&mut self, change: Change) -> Result<(), Refusal>
         ensures answer { result ≡ refusal_of (known self.old).task change }
         ensures after { known self.new ≡ after result (changed change) (known self.old) }
@@ -90,7 +91,7 @@ impl KnownGroups {
     pub fn waive(&mut self, set: Facts)
         ensures { known self.new ≡ anew (task_waived «set») (known self.old) }
     {
-        self.groups.clear(); // waived facts are waivable no more, and what was good asks for nothing now
+        self.groups.clear(); // a group holds waivable facts alone, and these are waivable no more
         self.problem.waived |= set;
     }
 
