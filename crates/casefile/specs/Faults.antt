@@ -1,11 +1,11 @@
--- What a report line tells of each fault; the fault of a layer below keeps its own number and layer.
-use Rattle.std.specs.Prelude.{ℕ, List, Some, None, Option}
+-- What is told of each fault; the fault of a layer below keeps its own number and layer.
+use Rattle.std.specs.Prelude.{ℕ, List, length, Some, None, Option}
 use Rattle.rules.specs.declared.layer.Layer.{Layer}
 use Rattle.rules.specs.declared.layer.Layer.TheVariants as layers
 use Rattle.rules.specs.Refusals as refusals
 use Rattle.rules.specs.Refusals.{layer_byte}
 use Rattle.frames.specs.Frames.{fault_number}
-use Rattle.frames.specs.Reports.{refused_bytes}
+use Rattle.frames.specs.Reports.{refused_bytes, report_line}
 use Rattle.frames.specs.declared.report.Added.{Added}
 use Rattle.frames.specs.declared.report.Added.TheVariants.{Set, SetAndMark}
 use Rattle.deciders.specs.declared.answer.DeciderFault.TheVariants.{BeyondReach}
@@ -13,7 +13,9 @@ use Rattle.waivers.specs.Faults as finder
 use Rattle.waivers.specs.declared.fault.FinderFault.{FinderFault}
 use Rattle.waivers.specs.declared.fault.FinderFault.TheVariants as finder_fault
 use Rattle.casefile.specs.declared.fault.LineFault.{LineFault}
-use Rattle.casefile.specs.declared.fault.LineFault.TheVariants.{TextTooLong, Frame, Case, Finder}
+use Rattle.casefile.specs.declared.fault.LineFault.TheVariants.{Frame, Case, Finder}
+use Rattle.casefile.specs.declared.fault.ReadFault.{ReadFault}
+use Rattle.casefile.specs.declared.fault.ReadFault.TheVariants.{TextTooLong, BufferTooShort}
 
 -- what is told of a fault: its number, its layer, and what it adds
 pub record Told : Type 0 where
@@ -24,20 +26,41 @@ pub record Told : Type 0 where
 -- beyond reach adds the set and the decider's mark, list full the set
 abbrev pub finder_adds : FinderFault → Option Added
 finder_adds (finder_fault.Case r) = None
-finder_adds finder_fault.SheetSize = None
-finder_adds finder_fault.BookSize = None
+finder_adds (finder_fault.Size e) = None
 finder_adds finder_fault.NoWaiver = None
 finder_adds (finder_fault.Decider (BeyondReach s m)) = Some (SetAndMark s m)
 finder_adds (finder_fault.ListFull s) = Some (Set s)
 
--- what is told of each fault
+-- what is told of each fault of a line
 abbrev pub told : LineFault → Told
-told TextTooLong = record { refusal = 19; layer = layers.Reader; added = None }
 told (Frame e) = record { refusal = fault_number e; layer = layers.Reader; added = None }
 told (Case r) = record { refusal = refusals.number r; layer = layers.Case; added = None }
-told (Finder e) = record { refusal = finder.number e; layer = finder.layer e; added = finder_adds e }
+told (Finder e) =
+    record { refusal = finder.number e; layer = finder.layer e; added = finder_adds e }
 
--- the bytes of the report line for a fault in a line of this kind and number
-abbrev pub fault_bytes : ℕ → ℕ → LineFault → List ℕ
-fault_bytes kind line e =
-    refused_bytes (record { kind = kind; refusal = (told e).refusal; layer = layer_byte (told e).layer; line = line; added = (told e).added })
+-- what is told of each reason why no line is read
+abbrev pub told_unread : ReadFault → Told
+told_unread BufferTooShort = record { refusal = 18; layer = layers.Finder; added = None }
+told_unread TextTooLong = record { refusal = 19; layer = layers.Reader; added = None }
+
+-- the bytes of the report line that tells this of a line of this kind and number
+abbrev pub told_bytes : ℕ → ℕ → Told → List ℕ
+told_bytes kind line t =
+    refused_bytes (record {
+      kind = kind;
+      refusal = t.refusal;
+      layer = layer_byte t.layer;
+      line = line;
+      added = t.added;
+    })
+
+-- the bytes of the one report line of a text that is too long: it is of no line, so its kind and
+-- its line are 0
+abbrev pub too_long_bytes : List ℕ
+too_long_bytes = told_bytes 0 0 (told_unread TextTooLong)
+
+-- how long the report line is that a fault leaves in the buffer; a buffer that is too short is left
+-- as it is
+abbrev pub reported_length : ReadFault → ℕ
+reported_length BufferTooShort = 0
+reported_length TextTooLong = length (report_line too_long_bytes)

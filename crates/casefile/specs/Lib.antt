@@ -2,4 +2,5 @@
 pub mod Faults
 pub mod Serving
 pub mod Reporting
+pub mod Chains
 pub mod Desks

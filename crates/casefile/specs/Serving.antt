@@ -1,26 +1,36 @@
--- What each frame does to the case, and what it answers.
-use Rattle.std.specs.Prelude.{◌≡◌, ℕ, ◌⊎◌, List, length, Ok, Err, Result}
-use Rattle.rules.specs.declared.step.Step.{Step}
+-- What each frame asks of the case, what that does, and what is answered.
+use Rattle.std.specs.Prelude.{◌≡◌, ℕ, ◌⊎◌, List, Ok, Err, Result}
 use Rattle.rules.specs.declared.refusal.Refusal.{Refusal}
-use Rattle.rules.specs.Refusals.{after}
 use Rattle.deciders.specs.declared.row.Row.{Row}
+use Rattle.waivers.specs.declared.change.Change.TheVariants as change
 use Rattle.waivers.specs.declared.fault.FinderFault.{FinderFault}
 use Rattle.waivers.specs.Searching.{Choice}
 use Rattle.frames.specs.Frames.{kind_of, fault_kind, Reads}
 use Rattle.frames.specs.declared.frame.Frame.{Frame}
-use Rattle.frames.specs.declared.frame.Frame.TheVariants.{Open, Put, Grant, Lapse, Order, Cancel, Withdraw, Carry, Find, DrawAndSign}
+use Rattle.frames.specs.declared.frame.Frame.TheVariants as frame
 use Rattle.frames.specs.declared.frame.FrameFault.{FrameFault}
-use Rattle.cases.specs.Plain.{opening, putting, naming, ordering, withdrawing, carrying, seeking, drawing, given}
-use Rattle.cases.specs.State.{State, opened, filled, granted, lapsed, ordered, cancelled, withdrawn, carried, drawn_and_signed}
+use Rattle.cases.specs.State.{State}
+use Rattle.cases.specs.Making.{Opens, Changes, DrawsAndSigns}
 use Rattle.cases.specs.Finding.{Finds}
 use Rattle.casefile.specs.declared.fault.LineFault.{LineFault}
 use Rattle.casefile.specs.declared.fault.LineFault.TheVariants as fault
+use Rattle.casefile.specs.declared.request.Request.{Request}
+use Rattle.casefile.specs.declared.request.Request.TheVariants.{Open, Change, Find, DrawAndSign}
 use Rattle.casefile.specs.declared.serving.Reply.{Reply}
 use Rattle.casefile.specs.declared.serving.Reply.TheVariants.{Done, Found}
 
--- a step of three sets
-abbrev pub step_of : ℕ → ℕ → ℕ → Step
-step_of needs gives takes = record { needs = needs; gives = gives; takes = takes }
+-- what each frame asks for
+abbrev pub request_of : Frame → Request
+request_of (frame.Open number n standing order) = Open number n standing order
+request_of (frame.Put place needs gives takes) = Change (change.Put place needs gives takes)
+request_of (frame.Grant x) = Change (change.Grant x)
+request_of (frame.Lapse x) = Change (change.Lapse x)
+request_of (frame.Order x) = Change (change.Order x)
+request_of (frame.Cancel x) = Change (change.Cancel x)
+request_of (frame.Withdraw i) = Change (change.Withdraw i)
+request_of (frame.Carry i) = Change (change.Carry i)
+request_of frame.Find = Find
+request_of frame.DrawAndSign = DrawAndSign
 
 -- how a call's answer is passed on
 abbrev pub called : Result Unit Refusal → Result Reply LineFault
@@ -32,27 +42,42 @@ abbrev pub looked : Result (ℕ × ℕ × ℕ) FinderFault → Result Reply Line
 looked (Ok (s, count, n)) = Ok (Found s count n)
 looked (Err e) = Err (fault.Finder e)
 
--- a frame that touches neither sheet nor book makes a call that answers a and turns k into f k, unless it is refused
-abbrev pub Makes : Result Unit Refusal → (State → State) → State → Result Reply LineFault → State → List Row → List ℕ → List Row → List ℕ → Type 0
-Makes a f k r k' s b s' b' = (r ≡ called a) × (k' ≡ after a f k) × (s' ≡ s) × (b' ≡ b)
+-- a call that touches neither sheet nor book is made, as C says of its answer and of the case then,
+-- and its answer is passed on
+pub record Calls (C : Result Unit Refusal → State → Type 0) (r : Result Reply LineFault)
+    (k' : State) (s : List Row) (b : List ℕ) (s' : List Row) (b' : List ℕ) : Type 0 where
+  pub answer : Result Unit Refusal
+  pub makes : C answer k'
+  pub reply : r ≡ called answer
+  pub sheet : s' ≡ s
+  pub book : b' ≡ b
 
--- what a frame does to the case k, the sheet s and the book b; c is the picker's choice, R the decider's reach, m its mark
-abbrev pub Serves : Choice → (ℕ → Type 0) → ℕ → Frame → State → Result Reply LineFault → State → List Row → List ℕ → List Row → List ℕ → Type 0
-Serves c R m (Open number n standing order) k r k' s b s' b' = Makes (opening k.plain n standing order) (opened number n standing order) k r k' s b s' b'
-Serves c R m (Put place needs gives takes) k r k' s b s' b' =
-    Makes (putting k.plain place (step_of needs gives takes)) (filled place (step_of needs gives takes)) k r k' s b s' b'
-Serves c R m (Grant x) k r k' s b s' b' = Makes (naming k.plain x) (granted x) k r k' s b s' b'
-Serves c R m (Lapse x) k r k' s b s' b' = Makes (naming k.plain x) (lapsed x) k r k' s b s' b'
-Serves c R m (Order x) k r k' s b s' b' = Makes (ordering k.plain x) (ordered x) k r k' s b s' b'
-Serves c R m (Cancel x) k r k' s b s' b' = Makes (naming k.plain x) (cancelled x) k r k' s b s' b'
-Serves c R m (Withdraw i) k r k' s b s' b' = Makes (withdrawing k.plain i) (withdrawn i) k r k' s b s' b'
-Serves c R m (Carry i) k r k' s b s' b' = Makes (carrying k.plain i) (carried i) k r k' s b s' b'
-Serves c R m Find k r k' s b s' b' =
-    (a : Result (ℕ × ℕ × ℕ) FinderFault) × (r ≡ looked a) × Finds c R m k a k' s b s' b' (seeking k.plain (length s) (length b))
-Serves c R m DrawAndSign k r k' s b s' b' = Makes (given (drawing k.plain)) (drawn_and_signed (drawing k.plain)) k r k' s b s' b'
+-- find is called, and its answer is passed on
+pub record Looks (c : Choice) (R : ℕ → Type 0) (m : ℕ) (k : State) (r : Result Reply LineFault)
+    (k' : State) (s : List Row) (b : List ℕ) (s' : List Row) (b' : List ℕ) : Type 0 where
+  pub answer : Result (ℕ × ℕ × ℕ) FinderFault
+  pub finds : Finds c R m k s b (record { result = answer; sheet = s'; book = b' }) k'
+  pub reply : r ≡ looked answer
+
+-- what a request does to the case k, the sheet s and the book b, and what is replied; c is the
+-- picker's choice, R says which sets are in the decider's reach, m is its mark
+abbrev pub Replies : Choice → (ℕ → Type 0) → ℕ → Request → State → Result Reply LineFault → State
+    → List Row → List ℕ → List Row → List ℕ → Type 0
+Replies c R m (Open number n standing order) k r k' s b s' b' =
+    Calls (λ a l. Opens number n standing order k a l) r k' s b s' b'
+Replies c R m (Change x) k r k' s b s' b' = Calls (λ a l. Changes x k a l) r k' s b s' b'
+Replies c R m Find k r k' s b s' b' = Looks c R m k r k' s b s' b'
+Replies c R m DrawAndSign k r k' s b s' b' = Calls (λ a l. DrawsAndSigns k a l) r k' s b s' b'
+
+-- what a frame does is what its request does
+abbrev pub Serves : Choice → (ℕ → Type 0) → ℕ → Frame → State → Result Reply LineFault → State
+    → List Row → List ℕ → List Row → List ℕ → Type 0
+Serves c R m f k r k' s b s' b' = Replies c R m (request_of f) k r k' s b s' b'
 
 -- a line asks for what its frame does, or holds no frame and is refused with the kind that it shows
-abbrev pub Asks : Choice → (ℕ → Type 0) → ℕ → List ℕ → ℕ → State → Result Reply LineFault → State → List Row → List ℕ → List Row → List ℕ → Type 0
+abbrev pub Asks : Choice → (ℕ → Type 0) → ℕ → List ℕ → ℕ → State → Result Reply LineFault → State
+    → List Row → List ℕ → List Row → List ℕ → Type 0
 Asks c R m line kind k r k' s b s' b' =
     ((f : Frame) × Reads line (Ok f) × (kind ≡ kind_of f) × Serves c R m f k r k' s b s' b')
-    ⊎ ((e : FrameFault) × Reads line (Err e) × (kind ≡ fault_kind e) × (r ≡ Err (fault.Frame e)) × (k' ≡ k) × (s' ≡ s) × (b' ≡ b))
+    ⊎ ((e : FrameFault) × Reads line (Err e) × (kind ≡ fault_kind e)
+    × (r ≡ Err (fault.Frame e)) × (k' ≡ k) × (s' ≡ s) × (b' ≡ b))

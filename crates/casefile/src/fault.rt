@@ -1,24 +1,26 @@
-//! Why a line of a case file is refused.
+//! Why a line of a case file is refused, why no line of a text is read, and why a text is not served.
 
 ghost use Rattle.std.specs.Prelude.{◌≡◌};
 ghost use Rattle.casefile.specs.declared.fault.LineFault.TheVariants.{Frame as OfFrame, Case as OfCase, Finder as OfFinder};
-ghost use Rattle.casefile.specs.Faults.{told};
+ghost use Rattle.casefile.specs.declared.fault.ServeFault.TheVariants.{Unread as OfUnread, Output as OfOutput};
+ghost use Rattle.frames.specs.Reports.{Printed};
+ghost use Rattle.casefile.specs.Faults.{told, told_unread, too_long_bytes, reported_length};
 
 use deciders::DeciderFault;
-use frames::{Added, FrameFault};
+use frames::{Added, FrameFault, Refused, write_refused};
 use rules::{Layer, Refusal};
+use std::io;
+use thiserror::Error;
 use waivers::FinderFault;
 
 /// Why a line is refused. The fault of a layer below is kept whole.
 #[derive(Clone, Copy, PartialEq, Eq, Debug)]
 pub enum LineFault {
-    /// The line is one of a text that is too long to be read.
-    TextTooLong,
-    /// The line holds no frame that is served.
+    /// The line holds no frame.
     Frame(FrameFault),
     /// The case refuses the call.
     Case(Refusal),
-    /// Find ends without a set.
+    /// Find is refused, or ends without a set.
     Finder(FinderFault),
 }
 
@@ -29,7 +31,6 @@ impl LineFault {
     {
         // Kept: a variant that holds a value has no discriminant to cast.
         match self {
-            LineFault::TextTooLong => 19,
             LineFault::Frame(fault) => fault.number(),
             LineFault::Case(refusal) => refusal.number(),
             LineFault::Finder(fault) => fault.number(),
@@ -41,7 +42,7 @@ impl LineFault {
         ensures { result ≡ (told self.now).layer }
     {
         match self {
-            LineFault::TextTooLong | LineFault::Frame(_) => Layer::Reader,
+            LineFault::Frame(_) => Layer::Reader,
             LineFault::Case(_) => Layer::Case,
             LineFault::Finder(fault) => fault.layer(),
         }
@@ -62,6 +63,77 @@ impl LineFault {
             _ => None,
         }
     }
+}
+
+/// Why no line of a text is read.
+#[derive(Clone, Copy, PartialEq, Eq, Debug, Error)]
+pub enum ReadFault {
+    /// The text has more than 16,384 bytes.
+    #[error("the text has more than 16,384 bytes")]
+    TextTooLong,
+    /// The report buffer has fewer than 8,209 bytes.
+    #[error("the report buffer has fewer than 8,209 bytes")]
+    BufferTooShort,
+}
+
+impl ReadFault {
+    /// The fault's number.
+    pub fn number(&self) -> u8
+        ensures { result ≡ (told_unread self.now).refusal }
+    {
+        match self {
+            ReadFault::BufferTooShort => 18,
+            ReadFault::TextTooLong => 19,
+        }
+    }
+
+    /// The layer that the fault comes from.
+    pub fn layer(&self) -> Layer
+        ensures { result ≡ (told_unread self.now).layer }
+    {
+        match self {
+            ReadFault::BufferTooShort => Layer::Finder,
+            ReadFault::TextTooLong => Layer::Reader,
+        }
+    }
+
+    /// How many bytes the report line has that the fault leaves at the front of the buffer: 11 where the text is too long,
+    /// and 0 where the buffer is too short.
+    pub fn reported(&self) -> usize
+        ensures { result ≡ reported_length self.now }
+    {
+        match self {
+            ReadFault::BufferTooShort => 0,
+            ReadFault::TextTooLong => 11,
+        }
+    }
+}
+
+/// Writes the one report line of a text that is too long to the front of the buffer, and says how long it is. It is of no
+/// line, so kind and line are 0.
+pub(crate) fn report_too_long(buffer: &mut [u8]) -> Option<usize>
+    ensures { Printed too_long_bytes buffer.old buffer.new result }
+{
+    let fault = ReadFault::TextTooLong;
+    let refused = Refused {
+        kind: 0,
+        refusal: fault.number(),
+        layer: u8::from(fault.layer()),
+        line: 0,
+        added: None,
+    };
+    write_refused(&refused, buffer)
+}
+
+/// Why a text is not served to its end.
+#[derive(Debug, Drop, Error)]
+pub enum ServeFault {
+    /// No line is read.
+    #[error("{0}")]
+    Unread(ReadFault),
+    /// The report can't be written.
+    #[error("{0}")]
+    Output(io::Error),
 }
 
 // Kept: by hand, here and below, since the contracts say which fault a `?` makes, and a derive would not.
@@ -86,5 +158,21 @@ impl From<FinderFault> for LineFault {
 
     fn from(fault: FinderFault) -> LineFault {
         LineFault::Finder(fault)
+    }
+}
+
+impl From<ReadFault> for ServeFault {
+    ghost from_gives = { λ e r. r ≡ OfUnread e };
+
+    fn from(fault: ReadFault) -> ServeFault {
+        ServeFault::Unread(fault)
+    }
+}
+
+impl From<io::Error> for ServeFault {
+    ghost from_gives = { λ e r. r ≡ OfOutput e };
+
+    fn from(fault: io::Error) -> ServeFault {
+        ServeFault::Output(fault)
     }
 }

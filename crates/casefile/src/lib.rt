@@ -4,8 +4,11 @@
 
 mod fault;
 mod reading;
+mod request;
 mod serving;
+mod texts;
 
-pub use fault::LineFault;
-pub use reading::{MAX_TEXT, MIN_REPORT, ReadFault, Reading};
+pub use fault::{LineFault, ReadFault, ServeFault};
+pub use reading::{MAX_TEXT, MIN_REPORT, Reading};
 pub use serving::{Desk, Reply};
+pub use texts::serve_text;

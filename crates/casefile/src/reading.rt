@@ -4,7 +4,7 @@ ghost use Rattle.std.specs.Prelude.{ℕ, ◌<◌, ◌≤◌};
 
 mod next;
 
-pub use next::{MAX_TEXT, MIN_REPORT, ReadFault};
+pub use next::{MAX_TEXT, MIN_REPORT};
 
 /// Where reading a text stands: the position of the next line, and how many lines were read. Each line takes a byte at
 /// least, and a text has at most 16,384.

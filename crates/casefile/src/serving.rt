@@ -5,11 +5,12 @@ ghost use Rattle.casefile.specs.Serving.{called};
 ghost use Rattle.casefile.specs.Desks.{KeepsLoans, KeepsReach, ServesAt};
 
 use crate::fault::LineFault;
+use crate::request::{Request, asked_by};
 use cases::Case;
 use deciders::{Decider, Row};
 use frames::Frame;
 use pickers::Picker;
-use rules::{Facts, Refusal, Step};
+use rules::{Facts, Refusal};
 
 /// What an accepted frame answers.
 // Kept: both are answers to accepted frames; as an Option, None would read as no answer.
@@ -53,45 +54,28 @@ fn reply_to(made: Result<(), Refusal>) -> Result<Reply, LineFault>
 }
 
 impl<D: Decider, P: Picker> Desk<'_, D, P> {
-    /// Makes the call that a frame asks for.
+    /// Makes the call that a frame asks for. A refused call is answered by `LineFault::Case`, and a find without a set by
+    /// `LineFault::Finder`.
     pub fn serve(&mut self, frame: &Frame) -> Result<Reply, LineFault>
         ensures same { KeepsLoans self.old self.new }
         ensures reach { KeepsReach D.reach self.old self.new }
-        ensures serves { ServesAt P.choice D.reach D.signed frame.now self.old result self.new }
+        ensures serves { ServesAt P.choice D.reach D.MARK frame.now self.old result self.new }
     {
-        match *frame {
-            Frame::Open {
+        match asked_by(frame) {
+            Request::Open {
                 number,
                 n,
                 standing,
                 order,
             } => reply_to(self.case.open(number, n, standing, order)),
-            Frame::Put {
-                place,
-                needs,
-                gives,
-                takes,
-            } => {
-                let step = Step {
-                    needs,
-                    gives,
-                    takes,
-                };
-                reply_to(self.case.put(place, step))
-            }
-            Frame::Grant(set) => reply_to(self.case.grant(set)),
-            Frame::Lapse(set) => reply_to(self.case.lapse(set)),
-            Frame::Order(set) => reply_to(self.case.order(set)),
-            Frame::Cancel(set) => reply_to(self.case.cancel(set)),
-            Frame::Withdraw(place) => reply_to(self.case.withdraw(place)),
-            Frame::Carry(place) => reply_to(self.case.carry(place)),
-            Frame::Find => {
+            Request::Change(change) => reply_to(self.case.change(change)),
+            Request::Find => {
                 let (set, size, length) = self
                     .case
                     .find(self.decider, self.picker, self.sheet, self.book)?;
                 Ok(Reply::Found { set, size, length })
             }
-            Frame::DrawAndSign => reply_to(self.case.draw_and_sign()),
+            Request::DrawAndSign => reply_to(self.case.draw_and_sign()),
         }
     }
 }

@@ -1,3 +1,5 @@
-pub mod Finished
-pub mod Made
+pub mod Refused
+pub mod Findings
 pub mod Staying
+pub mod Keeping
+pub mod Recording

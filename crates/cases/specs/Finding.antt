@@ -1,39 +1,46 @@
 -- What find says, and what case, sheet and plan book hold after it.
-use Rattle.std.specs.Prelude.{◌≡◌, ℕ, ◌-◌, ◌<◌, List, ◌++◌, length, take, replicate, Some, None, Ok, Err, Option, Result}
+use Rattle.std.specs.Prelude.{◌≡◌, ℕ, List, length, Some, None, Ok, Err, Option, Result}
 use Rattle.rules.specs.Sets.{size}
 use Rattle.deciders.specs.declared.row.Row.{Row}
+use Rattle.waivers.specs.declared.known.search.Found.{Found}
 use Rattle.waivers.specs.declared.fault.FinderFault.{FinderFault}
-use Rattle.waivers.specs.Searching.{Choice, Grown, Solved, Stopped}
-use Rattle.cases.specs.Plain.{found_as}
-use Rattle.cases.specs.State.{State}
+use Rattle.waivers.specs.Searching.{Choice, Searches}
+use Rattle.waivers.specs.Wiping.{zero_rows, plan_length, IsWipedFrom}
+use Rattle.cases.specs.Calls.{Finding, Sought}
+use Rattle.cases.specs.Refusing.{refused}
+use Rattle.cases.specs.State.{State, known_of, plain_found}
 
--- a row of zeros
-abbrev pub zero_row : Row
-zero_row = record { «set» = 0; parent = 0; place = 0 }
+-- find's answer to what its search found: the set, how many facts it has, and the plan's length
+abbrev pub answer_to : Result Found FinderFault → Result (ℕ × ℕ × ℕ) FinderFault
+answer_to (Ok f) = Ok (f.«set», size f.«set», f.length)
+answer_to (Err e) = Err e
 
--- the case with other groups and another finding
-abbrev pub found : State → List ℕ → Option ℕ → State
-found k gs o = record { plain = found_as o k.plain; groups = gs }
+-- what an answer leaves as the finding: its set, or nothing
+abbrev pub set_found : Result (ℕ × ℕ × ℕ) FinderFault → Option ℕ
+set_found (Ok (s, count, n)) = Some s
+set_found (Err e) = None
 
--- what an answer says of the groups that find leaves and of the book b; c is the picker's choice, R the decider's reach, m its mark
-abbrev pub Answered : Choice → (ℕ → Type 0) → ℕ → State → Result (ℕ × ℕ × ℕ) FinderFault → State → ℕ → List ℕ → Type 0
-Answered c R m k (Ok (s, count, n)) k' rows b =
-    (k' ≡ found k k'.groups (Some s))
-    × (count ≡ size s)
-    × (n < rows)
-    × Solved c R k.plain.task k'.groups s n b
-    × (b ≡ take n b ++ replicate (length b - n) 255)
-Answered c R m k (Err e) k' rows b =
-    (k' ≡ found k k'.groups None)
-    × Stopped c R m k.plain.task k'.groups e
-    × (b ≡ replicate (length b) 255)
+-- A find that is not refused searches, with the sheet s and the book b: it answers as the search
+-- does, keeps its set as the finding, and leaves zeros in all rows and 255 in all places of the
+-- book past the plan.
+pub record FindsBySearch (c : Choice) (R : ℕ → Type 0) (m : ℕ) (k : State)
+    (s : List Row) (b : List ℕ) (a : Sought) (k' : State) : Type 0 where
+  pub found : Result Found FinderFault
+  pub searches : Searches c R m (length s) (known_of k) found (known_of k') a.book
+  pub answer : a.result ≡ answer_to found
+  pub plain : k'.plain ≡ plain_found (set_found a.result) k.plain
+  pub rows : a.sheet ≡ zero_rows (length s)
+  pub places : IsWipedFrom (plan_length found) a.book
+  pub book : length a.book ≡ length b
 
--- A refused find changes nothing. Any other keeps the listed groups, lists each new one as the search does, answers truly,
--- and leaves zeros in the rows and 255 in the places past the plan. (Sheet and book are s and b before, s' and b' after.)
-abbrev pub Finds : Choice → (ℕ → Type 0) → ℕ → State → Result (ℕ × ℕ × ℕ) FinderFault → State → List Row → List ℕ → List Row → List ℕ → Result Unit FinderFault → Type 0
-Finds c R m k r k' s b s' b' (Err e) = (r ≡ Err e) × (k' ≡ k) × (s' ≡ s) × (b' ≡ b)
-Finds c R m k r k' s b s' b' (Ok u) =
-    Grown c k.plain.task k.groups k'.groups
-    × Answered c R m k r k' (length s) b'
-    × (s' ≡ replicate (length s) zero_row)
-    × (length b' ≡ length b)
+-- a find is refused, and changes nothing, or searches
+abbrev pub FindsUnless : Result Unit FinderFault → Choice → (ℕ → Type 0) → ℕ → State
+    → List Row → List ℕ → Sought → State → Type 0
+FindsUnless (Err e) c R m k s b a k' =
+    (a ≡ record { result = Err e; sheet = s; book = b }) × (k' ≡ k)
+FindsUnless (Ok u) c R m k s b a k' = FindsBySearch c R m k s b a k'
+
+-- find on the case k; c is the picker's choice, R says which sets are in reach, m is the decider's
+-- mark
+abbrev pub Finds : Choice → (ℕ → Type 0) → ℕ → State → List Row → List ℕ → Sought → State → Type 0
+Finds c R m k s b a k' = FindsUnless (refused k.plain (Finding s b)) c R m k s b a k'

@@ -1,43 +1,81 @@
--- What calls on a case come to, by the contracts of the single calls: one call, and a list of them.
-use Rattle.std.specs.Prelude.{◌≡◌, ℕ, List, [], ◌∷◌, ◌++◌, length, vec_items}
-use Rattle.rules.specs.Planning.{Task}
+-- What the contract of each call says; and a list of calls, each made as its own contract says.
+use Rattle.std.specs.Prelude.{◌≡◌, ℕ, true, false, List, [], ◌∷◌, ◌++◌, length, Ok, Err, IfOk, Result}
+use Rattle.rules.specs.declared.refusal.Refusal.{Refusal}
+use Rattle.rules.specs.Planning.{Task, Solvable}
 use Rattle.rules.specs.Refusals.{after}
-use Rattle.deciders.specs.declared.row.Row.{Row}
+use Rattle.deciders.specs.Reaching.{Same}
+use Rattle.waivers.specs.declared.change.Change.{Change}
 use Rattle.waivers.specs.Known.{Listed}
 use Rattle.waivers.specs.Searching.{Choice}
-use Rattle.cases.specs.declared.call.Call.{Call}
-use Rattle.cases.specs.declared.call.Call.TheVariants.{Open, Grant, Lapse, Put, Withdraw, Carry, Order, Cancel, Find, Draw, Sign, Tear}
-use Rattle.cases.specs.declared.call.Answer.{Answer}
-use Rattle.cases.specs.declared.call.Answer.TheVariants.{Done, Found, Drawn}
-use Rattle.cases.specs.Plain.{opening, naming, putting, ordering, withdrawing, carrying, seeking, drawing, deciding}
-use Rattle.cases.specs.State.{State, fresh, known_of, opened, filled, granted, lapsed, ordered, cancelled, withdrawn, carried, drawn, signed, torn}
+use Rattle.cases.specs.declared.slip.SlipData.{SlipData}
+use Rattle.cases.specs.Calls.{Asked, Opening, Changing, Finding, Drawing, Signing, Tearing, AnswerTo, Entry}
+use Rattle.cases.specs.Refusing.{case_refusal, drawing}
+use Rattle.cases.specs.State.{State, fresh, known_of, state_opened, state_changed, state_signed, state_with_slip}
 use Rattle.cases.specs.Finding.{Finds}
 
--- a find on the sheet s and the book b
-abbrev pub Searched : Choice → (Task → ℕ → ℕ → ℕ → Type 0) → ℕ → State → List Row → List ℕ → Answer → State → Type 0
-Searched c R m k s b (Done r) k' = ⊥
-Searched c R m k s b (Found r s' b') k' =
-    Finds c (λ x. R k.plain.task x (length s) (length b)) m k r k' s b (vec_items s') (vec_items b') (seeking k.plain (length s) (length b))
-    × Listed (known_of k')
-Searched c R m k s b (Drawn r) k' = ⊥
+-- ---- the single calls: of the case k before, the answer r, and the case k' after
 
--- one call on the case k, its answer and the case that it leaves; c is the picker's choice, R the decider's reach, m its mark
-abbrev pub Makes : Choice → (Task → ℕ → ℕ → ℕ → Type 0) → ℕ → State → Call → Answer → State → Type 0
-Makes c R m k (Open number n s o) a k' = (a ≡ Done (opening k.plain n s o)) × (k' ≡ after (opening k.plain n s o) (opened number n s o) k)
-Makes c R m k (Grant s) a k' = (a ≡ Done (naming k.plain s)) × (k' ≡ after (naming k.plain s) (granted s) k)
-Makes c R m k (Lapse s) a k' = (a ≡ Done (naming k.plain s)) × (k' ≡ after (naming k.plain s) (lapsed s) k)
-Makes c R m k (Put i t) a k' = (a ≡ Done (putting k.plain i t)) × (k' ≡ after (putting k.plain i t) (filled i t) k)
-Makes c R m k (Withdraw i) a k' = (a ≡ Done (withdrawing k.plain i)) × (k' ≡ after (withdrawing k.plain i) (withdrawn i) k)
-Makes c R m k (Carry i) a k' = (a ≡ Done (carrying k.plain i)) × (k' ≡ after (carrying k.plain i) (carried i) k)
-Makes c R m k (Order s) a k' = (a ≡ Done (ordering k.plain s)) × (k' ≡ after (ordering k.plain s) (ordered s) k)
-Makes c R m k (Cancel s) a k' = (a ≡ Done (naming k.plain s)) × (k' ≡ after (naming k.plain s) (cancelled s) k)
-Makes c R m k (Find s b) a k' = Searched c R m k (vec_items s) (vec_items b) a k'
-Makes c R m k Draw a k' = (a ≡ Drawn (drawing k.plain)) × (k' ≡ drawn (drawing k.plain) k)
-Makes c R m k (Sign number s) a k' = (a ≡ Done (deciding k.plain number s)) × (k' ≡ after (deciding k.plain number s) (signed s) k)
-Makes c R m k (Tear number s) a k' = (a ≡ Done (deciding k.plain number s)) × (k' ≡ after (deciding k.plain number s) torn k)
+-- A call that is refused for o, if o refuses, and else makes f k of the case k: its answer says
+-- which, and a refusal changes nothing.
+pub record MadeOrRefused (o : Result Unit Refusal) (f : State → State) (k : State)
+    (r : Result Unit Refusal) (k' : State) : Type 0 where
+  pub answer : r ≡ o
+  pub after : k' ≡ after o f k
 
--- the calls with their answers, first to last, lead from a fresh case to the case k, and each did what its own contract says
-pub data Made (c : Choice) (R : Task → ℕ → ℕ → ℕ → Type 0) (m : ℕ) : List (Call × Answer) → State → Type 0 where
-  unmade : Made c R m [] fresh
-  then : {es : List (Call × Answer)} {k : State} → Made c R m es k → (x : Call) (a : Answer) (k' : State)
-      → Makes c R m k x a k' → Made c R m (es ++ (x, a) ∷ []) k'
+-- open
+abbrev pub Opens : ℕ → ℕ → ℕ → ℕ → State → Result Unit Refusal → State → Type 0
+Opens number n s o k r k' =
+    MadeOrRefused (case_refusal k.plain (Opening number n s o)) (state_opened number n s o) k r k'
+
+-- a change of what is planned over
+abbrev pub Changes : Change → State → Result Unit Refusal → State → Type 0
+Changes x k r k' = MadeOrRefused (case_refusal k.plain (Changing x)) (state_changed x) k r k'
+
+-- draw: the answer is what the slip says, or why none is drawn; the slip is out then
+pub record Draws (k : State) (r : Result SlipData Refusal) (k' : State) : Type 0 where
+  pub answer : r ≡ drawing k.plain
+  pub after : k' ≡ after (case_refusal k.plain Drawing) (state_with_slip true) k
+
+-- sign, and a signed slip leaves a case that has a plan
+pub record Signs (slip : SlipData) (k : State) (r : Result Unit Refusal) (k' : State)
+    : Type 0 where
+  pub does : MadeOrRefused (case_refusal k.plain (Signing slip)) (state_signed slip) k r k'
+  pub plan : IfOk r (λ u. Solvable k'.plain.task 0)
+
+-- tear
+abbrev pub Tears : SlipData → State → Result Unit Refusal → State → Type 0
+Tears slip k r k' =
+    MadeOrRefused (case_refusal k.plain (Tearing slip)) (state_with_slip false) k r k'
+
+-- draw, and then sign with the slip that was drawn; or a draw that is refused
+abbrev pub DrawsAndSigns : State → Result Unit Refusal → State → Type 0
+DrawsAndSigns k (Ok u) k' =
+    (slip : SlipData) × (drawn : State) × Draws k (Ok slip) drawn × Signs slip drawn (Ok tt) k'
+DrawsAndSigns k (Err e) k' = Draws k (Err e) k'
+
+-- ---- any call
+
+-- a call x on the case k, its answer and the case that it leaves (c is the picker's choice, reach
+-- the decider's reach, m its mark); after find each listed group is a group of the case, none
+-- twice, at most 64
+abbrev pub Makes : Choice → (Task → ℕ → ℕ → ℕ → Type 0) → ℕ → State → (x : Asked) → AnswerTo x
+    → State → Type 0
+Makes c reach m k (Opening number n s o) r k' = Opens number n s o k r k'
+Makes c reach m k (Changing x) r k' = Changes x k r k'
+Makes c reach m k (Finding s b) a k' =
+    Finds c (λ x. reach k.plain.task x (length s) (length b)) m k s b a k' × Listed (known_of k')
+Makes c reach m k Drawing r k' = Draws k r k'
+Makes c reach m k (Signing slip) r k' = Signs slip k r k'
+Makes c reach m k (Tearing slip) r k' = Tears slip k r k'
+
+-- Calls on a fresh case, first to last, each made as its own contract says: es are the calls with
+-- their answers, d is the decider and k the case that they leave. Each call is made at the reach of
+-- the decider as it then is, and leaves a decider of the same reach.
+pub data Made {D : Type 0} (c : Choice) (reach : D → Task → ℕ → ℕ → ℕ → Type 0) (m : ℕ)
+    (first : D) : List Entry → D → State → Type 0 where
+  unmade : Made c reach m first [] first fresh
+  then : {es : List Entry} {d : D} {k : State} → Made c reach m first es d k
+      → (e : Entry) (d' : D) (k' : State)
+      → Makes c (reach d) m k e.asked e.answered k'
+      → Same (reach d) (reach d')
+      → Made c reach m first (es ++ e ∷ []) d' k'

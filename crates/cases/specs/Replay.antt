@@ -1,80 +1,47 @@
 -- The plain case over lists of calls: it is fed the calls and what they answered.
-use Rattle.std.specs.Prelude.{ℕ, true, false, List, [], ◌∷◌, length, Some, None, Ok, Err, vec_items, Option, Result}
+use Rattle.std.specs.Prelude.{ℕ, true, false, List, [], ◌∷◌, Ok, Err, Result}
 use Rattle.rules.specs.declared.refusal.Refusal.{Refusal}
 use Rattle.waivers.specs.declared.fault.FinderFault.{FinderFault}
-use Rattle.waivers.specs.declared.fault.FinderFault.TheVariants.{Case, SheetSize, BookSize, NoWaiver, Decider, ListFull}
-use Rattle.waivers.specs.Known.{puts, withdraws, grants, lapses, carries, orders, cancels}
-use Rattle.cases.specs.declared.call.Call.{Call}
-use Rattle.cases.specs.declared.call.Call.TheVariants.{Open, Grant, Lapse, Put, Withdraw, Carry, Order, Cancel, Find, Draw, Sign, Tear}
-use Rattle.cases.specs.declared.call.Answer.{Answer}
-use Rattle.cases.specs.declared.call.Answer.TheVariants.{Done, Found, Drawn}
-use Rattle.cases.specs.Plain.{Plain, unopened, opening, naming, putting, ordering, withdrawing, carrying, seeking, drawing, given, deciding, changed, opened_as, found_as, with_slip, signed_for}
+use Rattle.waivers.specs.declared.fault.FinderFault.TheVariants.{Case, Size}
+use Rattle.cases.specs.declared.slip.SlipData.{SlipData}
+use Rattle.cases.specs.Plain.{Plain, unopened}
+use Rattle.cases.specs.Calls.{Asked, Opening, Changing, Finding, Drawing, Signing, Tearing, AnswerTo, Entry}
+use Rattle.cases.specs.Refusing.{of_case, refused}
+use Rattle.cases.specs.Finding.{set_found}
+use Rattle.cases.specs.State.{plain_opened, plain_changed, plain_found, plain_signed, with_slip}
 
--- ---- which calls are refused
+-- ---- which refusal an answer is
 
--- a refusal of the case's layer, among those of find
-abbrev pub of_case : Result Unit Refusal → Result Unit FinderFault
-of_case (Ok u) = Ok tt
-of_case (Err e) = Err (Case e)
+-- whether a slip is drawn, without what it says
+abbrev pub given : Result SlipData Refusal → Result Unit Refusal
+given (Ok slip) = Ok tt
+given (Err e) = Err e
 
--- why a plain case refuses a call, or not
-abbrev pub refused : Plain → Call → Result Unit FinderFault
-refused p (Open number n s o) = of_case (opening p n s o)
-refused p (Grant s) = of_case (naming p s)
-refused p (Lapse s) = of_case (naming p s)
-refused p (Put i t) = of_case (putting p i t)
-refused p (Withdraw i) = of_case (withdrawing p i)
-refused p (Carry i) = of_case (carrying p i)
-refused p (Order s) = of_case (ordering p s)
-refused p (Cancel s) = of_case (naming p s)
-refused p (Find sheet book) = seeking p (length (vec_items sheet)) (length (vec_items book))
-refused p Draw = of_case (given (drawing p))
-refused p (Sign number s) = of_case (deciding p number s)
-refused p (Tear number s) = of_case (deciding p number s)
-
--- which refusal find's answer is; none, beyond reach and list full are no refusals of the call but ends of a search
+-- none, beyond reach and list full are no refusals of find but ends of its search
 abbrev pub turned_down : Result (ℕ × ℕ × ℕ) FinderFault → Result Unit FinderFault
-turned_down (Ok t) = Ok tt
 turned_down (Err (Case e)) = Err (Case e)
-turned_down (Err SheetSize) = Err SheetSize
-turned_down (Err BookSize) = Err BookSize
-turned_down (Err NoWaiver) = Ok tt
-turned_down (Err (Decider e)) = Ok tt
-turned_down (Err (ListFull s)) = Ok tt
+turned_down (Err (Size e)) = Err (Size e)
+turned_down r = Ok tt
 
 -- the refusal that an answer is, or none
-abbrev pub met : Answer → Result Unit FinderFault
-met (Done r) = of_case r
-met (Found r sheet book) = turned_down r
-met (Drawn r) = of_case (given r)
+abbrev pub refusal_in : (x : Asked) → AnswerTo x → Result Unit FinderFault
+refusal_in (Opening number n s o) r = of_case r
+refusal_in (Changing x) r = of_case r
+refusal_in (Finding s b) a = turned_down a.result
+refusal_in Drawing r = of_case (given r)
+refusal_in (Signing slip) r = of_case r
+refusal_in (Tearing slip) r = of_case r
 
 -- ---- what calls do
 
--- what find's answer leaves as the finding: its set, or nothing
-abbrev pub set_found : Result (ℕ × ℕ × ℕ) FinderFault → Option ℕ
-set_found (Ok (s, count, n)) = Some s
-set_found (Err e) = None
-
--- the finding that an answer leaves
-abbrev pub kept : Answer → Option ℕ
-kept (Done r) = None
-kept (Found r sheet book) = set_found r
-kept (Drawn r) = None
-
 -- what an accepted call makes of the plain case; find is fed its answer
-abbrev pub rule : Plain → Call → Answer → Plain
-rule p (Open number n s o) a = opened_as number n s o p
-rule p (Grant s) a = changed (grants s) p
-rule p (Lapse s) a = changed (lapses s) p
-rule p (Put i t) a = changed (puts i t) p
-rule p (Withdraw i) a = changed (withdraws i) p
-rule p (Carry i) a = changed (carries i) p
-rule p (Order s) a = changed (orders s) p
-rule p (Cancel s) a = changed (cancels s) p
-rule p (Find sheet book) a = found_as (kept a) p
-rule p Draw a = with_slip true p
-rule p (Sign number s) a = signed_for s p
-rule p (Tear number s) a = with_slip false p
+abbrev pub rule : (x : Asked) → AnswerTo x → Plain → Plain
+rule (Opening number n s o) r p = plain_opened number n s o p
+rule (Changing x) r p = plain_changed x p
+rule (Finding s b) a p = plain_found (set_found a.result) p
+rule Drawing r p = with_slip true p
+rule (Signing slip) r p = plain_signed slip p
+rule (Tearing slip) r p = with_slip false p
 
 -- a refused call changes nothing
 abbrev pub unless : Result Unit FinderFault → Plain → Plain → Plain
@@ -82,14 +49,14 @@ unless (Ok u) p q = q
 unless (Err e) p q = p
 
 -- the plain case after a call
-abbrev pub next : Plain → Call → Answer → Plain
-next p x a = unless (refused p x) p (rule p x a)
+abbrev pub next : Plain → Entry → Plain
+next p e = unless (refused p e.asked) p (rule e.asked e.answered p)
 
 -- the plain case after a list of calls with their answers
-abbrev pub replay : Plain → List (Call × Answer) → Plain
+abbrev pub replay : Plain → List Entry → Plain
 replay p [] = p
-replay p ((x, a) ∷ es) = replay (next p x a) es
+replay p (e ∷ es) = replay (next p e) es
 
 -- the plain case that these calls with their answers make from fresh
-abbrev pub after_calls : List (Call × Answer) → Plain
+abbrev pub after_calls : List Entry → Plain
 after_calls es = replay unopened es

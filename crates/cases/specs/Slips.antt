@@ -1,27 +1,32 @@
--- Slips: what one says, when it is refused, and that a refusal hands it back.
-use Rattle.std.specs.Prelude.{◌≡◌, ℕ, Ok, Err, Result}
+-- Slips: what one says, and what is answered where one is drawn or decided.
+use Rattle.std.specs.Prelude.{◌≡◌, false, Some, None, Ok, Err, Option, Result}
 use Rattle.rules.specs.declared.refusal.Refusal.{Refusal}
 use Rattle.cases.specs.declared.slip.Slip.{Slip}
-use Rattle.cases.specs.Plain.{Plain, deciding}
+use Rattle.cases.specs.declared.slip.SlipData.{SlipData}
+use Rattle.cases.specs.Plain.{Plain}
+use Rattle.cases.specs.Calls.{Signing}
+use Rattle.cases.specs.Refusing.{case_refusal}
 
--- the number of the case that a slip was drawn from
-abbrev pub number_on : Slip → ℕ
-number_on slip = slip.number
+-- what a slip says
+abbrev pub content_of : Slip → SlipData
+content_of slip = slip.content
 
--- the set that a slip waives once it is signed
-abbrev pub set_on : Slip → ℕ
-set_on slip = slip.«set»
+-- what the slip says that was drawn, or why none was
+abbrev pub drawn_content : Result Slip Refusal → Result SlipData Refusal
+drawn_content (Ok slip) = Ok (content_of slip)
+drawn_content (Err e) = Err e
 
--- what a slip says, or why none was drawn
-abbrev pub slip_data : Result Slip Refusal → Result (ℕ × ℕ) Refusal
-slip_data (Ok slip) = Ok (number_on slip, set_on slip)
-slip_data (Err e) = Err e
+-- what was decided of a slip, without the slip that a refusal hands back
+abbrev pub decision_of : Result Unit (Slip × Refusal) → Result Unit Refusal
+decision_of (Ok u) = Ok tt
+decision_of (Err (slip, e)) = Err e
 
--- whether this slip is refused
-abbrev pub deciding_on : Plain → Slip → Result Unit Refusal
-deciding_on p slip = deciding p (number_on slip) (set_on slip)
+-- The slip in hand is one that the case takes; where none is in hand, none is out.
+abbrev pub InHand : Plain → Option Slip → Type 0
+InHand p None = p.slip_out ≡ false
+InHand p (Some slip) = case_refusal p (Signing (content_of slip)) ≡ Ok tt
 
--- a refusal hands the slip back
-abbrev pub HandsBack : Slip → Result Unit Refusal → Result Unit (Slip × Refusal) → Type 0
-HandsBack slip o (Ok u) = o ≡ Ok tt
-HandsBack slip o (Err (back, e)) = (back ≡ slip) × (o ≡ Err e)
+-- what is in hand is not a slip that says this
+abbrev pub SaysOther : SlipData → Option Slip → Type 0
+SaysOther content None = Unit {0}
+SaysOther content (Some slip) = content_of slip ≡ content → ⊥

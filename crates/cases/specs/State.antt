@@ -1,26 +1,15 @@
--- What a case holds: a plain case and its group list; and what an accepted call makes of both.
-use Rattle.std.specs.Prelude.{ℕ, true, false, List, [], Ok, Err, Result}
-use Rattle.rules.specs.declared.step.Step.{Step}
-use Rattle.rules.specs.declared.refusal.Refusal.{Refusal}
-use Rattle.waivers.specs.Known.{Known, known, Reserved, losing, puts, withdraws, grants, lapses, carries, orders, cancels}
-use Rattle.cases.specs.declared.case.Case.{Case}
-use Rattle.cases.specs.Plain.{Plain, unopened, opened_as, changed, with_slip, signed_for}
+-- A case in plain terms: a plain case with its group list; and what accepted calls make of both.
+use Rattle.std.specs.Prelude.{ℕ, Bool, false, List, [], None, Option}
+use Rattle.waivers.specs.declared.change.Change.{Change}
+use Rattle.waivers.specs.Known.{Known}
+use Rattle.waivers.specs.Changes.{task_after, fate_of, groups_after, task_opened, task_waived}
+use Rattle.cases.specs.declared.slip.SlipData.{SlipData}
+use Rattle.cases.specs.Plain.{Plain, unopened}
 
 -- a plain case, and the groups that it lists
 pub record State : Type 0 where
   pub plain : Plain
   pub groups : List ℕ
-
--- what the program's case holds
-abbrev pub view : Case → State
-view k = record {
-  plain = record { number = k.number; task = (known k.known).task; finding = k.finding; slip_out = k.slip_out };
-  groups = (known k.known).groups;
-}
-
--- the memory for all groups that a case may list is at hand
-abbrev pub HasRoom : Case → Type 0
-HasRoom k = Reserved k.known
 
 -- a fresh case is unopened and lists no group
 abbrev pub fresh : State
@@ -30,62 +19,45 @@ fresh = record { plain = unopened; groups = [] }
 abbrev pub known_of : State → Known
 known_of k = record { task = k.plain.task; groups = k.groups }
 
--- ---- what accepted calls make of a case
+-- ---- what accepted calls make of the plain case
 
--- the list is emptied
-abbrev pub emptying : (Plain → Plain) → State → State
-emptying f k = record { plain = f k.plain; groups = [] }
+-- open sets number, number of facts, standing and order, and the finding is forgotten
+abbrev pub plain_opened : ℕ → ℕ → ℕ → ℕ → Plain → Plain
+plain_opened number n s o p =
+    record p { number = number; task = task_opened n s o p.task; finding = None }
 
--- the list stays
-abbrev pub keeping : (Plain → Plain) → State → State
-keeping f k = record { plain = f k.plain; groups = k.groups }
+-- a change makes another task, and the finding is forgotten
+abbrev pub plain_changed : Change → Plain → Plain
+plain_changed x p = record p { task = task_after x p.task; finding = None }
 
--- open sets number, number of facts, standing and order; no group is listed
-abbrev pub opened : ℕ → ℕ → ℕ → ℕ → State → State
-opened c n s o = emptying (opened_as c n s o)
+-- find leaves its set as the finding, or nothing
+abbrev pub plain_found : Option ℕ → Plain → Plain
+plain_found o p = record p { finding = o }
 
--- put fills a place and empties the list
-abbrev pub filled : ℕ → Step → State → State
-filled i t = emptying (changed (puts i t))
+-- a slip is out, or in
+abbrev pub with_slip : Bool → Plain → Plain
+with_slip b p = record p { slip_out = b }
 
--- withdraw empties a place and keeps the list
-abbrev pub withdrawn : ℕ → State → State
-withdrawn i = keeping (changed (withdraws i))
+-- sign waives the set and forgets the finding, and the slip is in
+abbrev pub plain_signed : SlipData → Plain → Plain
+plain_signed slip p =
+    record p { task = task_waived slip.«set» p.task; finding = None; slip_out = false }
 
--- grant adds a set to the standing and empties the list
-abbrev pub granted : ℕ → State → State
-granted s = emptying (changed (grants s))
+-- ---- and of the group list
 
--- lapse removes a set from the standing and keeps the list
-abbrev pub lapsed : ℕ → State → State
-lapsed s = keeping (changed (lapses s))
+-- open empties the list
+abbrev pub state_opened : ℕ → ℕ → ℕ → ℕ → State → State
+state_opened number n s o k = record { plain = plain_opened number n s o k.plain; groups = [] }
 
--- carry does a step for good and keeps the list
-abbrev pub carried : ℕ → State → State
-carried i = keeping (changed (carries i))
+-- sign empties it too
+abbrev pub state_signed : SlipData → State → State
+state_signed slip k = record { plain = plain_signed slip k.plain; groups = [] }
 
--- order adds a set to the order, and each group loses its facts
-abbrev pub ordered : ℕ → State → State
-ordered s k = record { plain = changed (orders s) k.plain; groups = losing s k.groups }
+-- it stays when a slip is drawn or torn
+abbrev pub state_with_slip : Bool → State → State
+state_with_slip b k = record k { plain = with_slip b k.plain }
 
--- cancel removes a set from the order and empties the list
-abbrev pub cancelled : ℕ → State → State
-cancelled s = emptying (changed (cancels s))
-
--- once a slip is drawn, it is out; the list stays
-abbrev pub drawn : Result (ℕ × ℕ) Refusal → State → State
-drawn (Ok d) k = keeping (with_slip true) k
-drawn (Err e) k = k
-
--- sign waives the set and empties the list
-abbrev pub signed : ℕ → State → State
-signed s = emptying (signed_for s)
-
--- tear changes only that the slip is in
-abbrev pub torn : State → State
-torn = keeping (with_slip false)
-
--- what is left where a slip is signed as soon as it is drawn
-abbrev pub drawn_and_signed : Result (ℕ × ℕ) Refusal → State → State
-drawn_and_signed (Ok (number, s)) k = signed s k
-drawn_and_signed (Err e) k = k
+-- and a change empties it, keeps it, or takes facts from its groups
+abbrev pub state_changed : Change → State → State
+state_changed x k =
+    record { plain = plain_changed x k.plain; groups = groups_after (fate_of x) k.groups }

@@ -1,10 +1,11 @@
 //! Calls as values, and their answers.
 
+use crate::slip::SlipData;
 use deciders::Row;
-use rules::{Facts, Refusal, Step};
-use waivers::FinderFault;
+use rules::{Facts, Refusal};
+use waivers::{Change, FinderFault};
 
-/// One of the twelve calls of a case. Find brings its working sheet and its plan book; sign and tear bring what some slip says.
+/// A call of a case. Find brings its working sheet and its plan book; sign and tear bring what some slip says.
 #[derive(Drop)]
 pub enum Call {
     Open {
@@ -13,29 +14,14 @@ pub enum Call {
         standing: Facts,
         order: Facts,
     },
-    Grant(Facts),
-    Lapse(Facts),
-    Put {
-        place: u8,
-        step: Step,
-    },
-    Withdraw(u8),
-    Carry(u8),
-    Order(Facts),
-    Cancel(Facts),
+    Change(Change),
     Find {
         sheet: Vec<Row>,
         book: Vec<u8>,
     },
     Draw,
-    Sign {
-        number: u32,
-        set: Facts,
-    },
-    Tear {
-        number: u32,
-        set: Facts,
-    },
+    Sign(SlipData),
+    Tear(SlipData),
 }
 
 /// What a call answered. Find hands its sheet and its book back, and draw says what its slip says.
@@ -47,5 +33,5 @@ pub enum Answer {
         sheet: Vec<Row>,
         book: Vec<u8>,
     },
-    Drawn(Result<(u32, Facts), Refusal>),
+    Drawn(Result<SlipData, Refusal>),
 }

@@ -1,90 +1,85 @@
-//! The calls that change the problem of an open case.
+//! The calls that only change what is planned over. They have all in common but the change.
 
-ghost use Rattle.std.specs.Prelude.{◌≡◌};
-ghost use Rattle.rules.specs.Refusals.{after};
-ghost use Rattle.cases.specs.Plain.{naming, putting, ordering, withdrawing, carrying};
-ghost use Rattle.cases.specs.State.{view, filled, granted, lapsed, ordered, cancelled, withdrawn, carried};
+ghost use Rattle.cases.specs.View.{view};
+ghost use Rattle.cases.specs.Making.{Changes};
 
 use crate::case::Case;
-use rules::{Facts, Refusal, Step};
+use rules::{Facts, Refusal};
+use waivers::Change;
 
-// Kept: each call in its own three steps; a method that takes the middle one as a closure makes `grant` no shorter.
 impl Case {
-    /// Puts a step into an empty place.
-    pub fn put(&mut self, place: u8, step: Step) -> Result<(), Refusal>
-        ensures answer { result ≡ putting (view self.old).plain place step }
-        ensures after { view self.new ≡ after result (filled place step) (view self.old) }
+    /// Makes a change of an opened case of which no slip is out. What was found before it is forgotten.
+    ///
+    /// Refused: `Unopened`, `SlipOut`, then as the change is. A refusal changes nothing, here and below.
+    pub fn change(&mut self, change: Change) -> Result<(), Refusal>
+        ensures { Changes change (view self.old) result (view self.new) }
     {
         self.check_usable()?;
-        self.check_names(step.needs | step.gives | step.takes)?;
-        self.known.put(place, step)?;
-        self.finding = None; // it was found without this step
+        self.known.change(change)?;
+        self.finding = None; // it was found before the change
         Ok(())
     }
 
-    /// Adds facts to the standing.
+    /// Adds facts to the standing. Refused: `Unopened`, `SlipOut`, `UnknownFact`.
     pub fn grant(&mut self, set: Facts) -> Result<(), Refusal>
-        ensures answer { result ≡ naming (view self.old).plain set }
-        ensures after { view self.new ≡ after result (granted set) (view self.old) }
+        ensures { Changes (Change.Grant «set») (view self.old) result (view self.new) }
     {
-        self.check_set(set)?;
-        self.known.grant(set);
-        self.finding = None; // it was found with less standing
-        Ok(())
+        self.change(Change::Grant(set))
     }
 
-    /// Removes facts from the standing.
+    /// Removes facts from the standing. Refused: `Unopened`, `SlipOut`, `UnknownFact`.
     pub fn lapse(&mut self, set: Facts) -> Result<(), Refusal>
-        ensures answer { result ≡ naming (view self.old).plain set }
-        ensures after { view self.new ≡ after result (lapsed set) (view self.old) }
+        ensures { Changes (Change.Lapse «set») (view self.old) result (view self.new) }
     {
-        self.check_set(set)?;
-        self.known.lapse(set);
-        self.finding = None; // it was found with more standing
-        Ok(())
+        self.change(Change::Lapse(set))
     }
 
-    /// Adds facts to the order.
-    pub fn order(&mut self, set: Facts) -> Result<(), Refusal>
-        ensures answer { result ≡ ordering (view self.old).plain set }
-        ensures after { view self.new ≡ after result (ordered set) (view self.old) }
+    /// Puts a step of three sets into an empty place, numbered from 0 to 63. Refused: `Unopened`, `SlipOut`, `UnknownFact`,
+    /// `GivesAndTakes`, `NoSuchPlace`, `PlaceTaken`.
+    pub fn put(
+        &mut self,
+        place: u8,
+        needs: Facts,
+        gives: Facts,
+        takes: Facts,
+    ) -> Result<(), Refusal>
+        ensures { Changes (Change.Put place needs gives takes)
+            (view self.old) result (view self.new) }
     {
-        self.check_set(set)?;
-        self.known.order(set)?;
-        self.finding = None; // it was found for a smaller order
-        Ok(())
+        self.change(Change::Put {
+            place,
+            needs,
+            gives,
+            takes,
+        })
     }
 
-    /// Removes facts from the order.
-    pub fn cancel(&mut self, set: Facts) -> Result<(), Refusal>
-        ensures answer { result ≡ naming (view self.old).plain set }
-        ensures after { view self.new ≡ after result (cancelled set) (view self.old) }
-    {
-        self.check_set(set)?;
-        self.known.cancel(set);
-        self.finding = None; // it was found for a larger order
-        Ok(())
-    }
-
-    /// Empties a place that holds a step.
+    /// Empties a place that holds a step. Refused: `Unopened`, `SlipOut`, `NoSuchPlace`, `PlaceEmpty`.
     pub fn withdraw(&mut self, place: u8) -> Result<(), Refusal>
-        ensures answer { result ≡ withdrawing (view self.old).plain place }
-        ensures after { view self.new ≡ after result (withdrawn place) (view self.old) }
+        ensures { Changes (Change.Withdraw place) (view self.old) result (view self.new) }
     {
-        self.check_usable()?;
-        self.known.withdraw(place)?;
-        self.finding = None; // it was found with this step
-        Ok(())
+        self.change(Change::Withdraw(place))
     }
 
-    /// Does a step for good, if its needs outside the waived facts stand.
+    /// Does a step for good, if its needs outside the waived facts stand. Refused: `Unopened`, `SlipOut`, `NoSuchPlace`,
+    /// `PlaceEmpty`, `NeedMissing`.
     pub fn carry(&mut self, place: u8) -> Result<(), Refusal>
-        ensures answer { result ≡ carrying (view self.old).plain place }
-        ensures after { view self.new ≡ after result (carried place) (view self.old) }
+        ensures { Changes (Change.Carry place) (view self.old) result (view self.new) }
     {
-        self.check_usable()?;
-        self.known.carry(place)?;
-        self.finding = None; // it was found before the step was done
-        Ok(())
+        self.change(Change::Carry(place))
+    }
+
+    /// Adds facts to the order. Refused: `Unopened`, `SlipOut`, `UnknownFact`, `WaivedFact`.
+    pub fn order(&mut self, set: Facts) -> Result<(), Refusal>
+        ensures { Changes (Change.Order «set») (view self.old) result (view self.new) }
+    {
+        self.change(Change::Order(set))
+    }
+
+    /// Removes facts from the order. Refused: `Unopened`, `SlipOut`, `UnknownFact`.
+    pub fn cancel(&mut self, set: Facts) -> Result<(), Refusal>
+        ensures { Changes (Change.Cancel «set») (view self.old) result (view self.new) }
+    {
+        self.change(Change::Cancel(set))
     }
 }

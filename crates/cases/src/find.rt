@@ -1,55 +1,26 @@
 //! Find.
 
-ghost use Rattle.std.specs.Prelude.{◌≡◌, ℕ, ◌-◌, ◌<◌, ◌≤◌, ◌++◌, length, take, replicate};
+ghost use Rattle.std.specs.Prelude.{◌≡◌, ℕ, length};
 ghost use Rattle.waivers.specs.Known.{Listed};
 ghost use Rattle.deciders.specs.Reaching.{Same};
-ghost use Rattle.cases.specs.Plain.{seeking};
-ghost use Rattle.cases.specs.State.{view, known_of};
-ghost use Rattle.cases.specs.Finding.{zero_row, Finds};
+ghost use Rattle.cases.specs.State.{known_of};
+ghost use Rattle.cases.specs.View.{view};
+ghost use Rattle.cases.specs.Finding.{Finds};
 
 use crate::case::Case;
-use deciders::{Decider, MAX_PLACES, MAX_ROWS, Row};
+use deciders::{Decider, Row, check_sizes};
 use pickers::Picker;
 use rules::{Facts, size};
 use waivers::FinderFault;
 
-/// What stands in a place of the plan book past the plan.
-// Kept: a byte a place, so no Option: a rule of the project.
-const NO_PLACE: u8 = 255;
-
-/// Sets every row to zero.
-fn wipe_sheet(sheet: &mut [Row])
-    ensures { sheet.new ≡ replicate (length sheet.old) zero_row }
-{
-    sheet.fill(Row::default());
-}
-
-/// Marks the places from `from` on as empty.
-fn wipe_book(book: &mut [u8], from: usize)
-    requires { from ≤ length book.old }
-    ensures { book.new ≡ take from book.old ++ replicate (length book.old - from) 255 }
-{
-    book[from..].fill(NO_PLACE);
-}
-
 impl Case {
-    /// Refuses what find can't work on.
-    fn check_find(&self, rows: usize, places: usize) -> Result<(), FinderFault>
-        ensures { result ≡ seeking (view self.now).plain rows places }
-    {
-        self.check_usable()?;
-        if rows == 0 || rows > MAX_ROWS {
-            return Err(FinderFault::SheetSize);
-        }
-        if places < rows || places > MAX_PLACES {
-            return Err(FinderFault::BookSize);
-        }
-        Ok(())
-    }
-
     // Kept: decider, picker, sheet and book as loans of their own, as in the search; a tuple for the answer is a rule of the project.
     /// A smallest set of waivable facts that leaves a solvable case when struck out: the set, its size, and the length
-    /// of the plan that is then in the book. The case keeps the set as its finding.
+    /// of the plan that is then in the book. The case keeps the set as its finding. The size counts facts, the length places.
+    ///
+    /// Refused for the case (`FinderFault::Case`), or for sheet or book (`Size`), and then nothing changes. Ends without a set
+    /// by `NoWaiver`, `Decider` or `ListFull`: then the finding is forgotten, and the groups that were entered stay. In all ends
+    /// the rows are zero and the places of the book past the plan are 255.
     pub fn find<D: Decider, P: Picker>(
         &mut self,
         decider: &mut D,
@@ -58,23 +29,21 @@ impl Case {
         book: &mut [u8],
     ) -> Result<(Facts, u8, u16), FinderFault>
         ensures finds { Finds (P.choice picker.now)
-            (λ s. D.reach decider.old (view self.old).plain.task s (length sheet.old) (length book.old))
-            D.signed (view self.old) result (view self.new) sheet.old book.old sheet.new book.new
-            (seeking (view self.old).plain (length sheet.old) (length book.old)) }
+            (λ s. D.reach decider.old (view self.old).plain.task s
+            (length sheet.old) (length book.old))
+            D.MARK (view self.old) sheet.old book.old
+            (record { result = result; sheet = sheet.new; book = book.new }) (view self.new) }
         ensures listed { Listed (known_of (view self.new)) }
         ensures same { Same (D.reach decider.old) (D.reach decider.new) }
     {
-        self.check_find(sheet.len(), book.len())?;
-        let searched = self.known.find_smallest(decider, picker, sheet, book);
-        wipe_sheet(sheet);
-        match searched {
+        self.check_usable()?;
+        check_sizes(sheet.len(), book.len())?;
+        match self.known.find_smallest(decider, picker, sheet, book) {
             Ok(found) => {
-                wipe_book(book, usize::from(found.length));
                 self.finding = Some(found.set);
                 Ok((found.set, size(found.set), found.length))
             }
             Err(fault) => {
-                wipe_book(book, 0);
                 self.finding = None;
                 Err(fault)
             }

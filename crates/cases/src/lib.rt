@@ -1,4 +1,4 @@
-//! The case: its calls, the plan check and find.
+//! The case: its calls, the plan check, slips, and lists of calls.
 
 #![tactic(auto)]
 
@@ -6,6 +6,7 @@ mod call;
 mod calls;
 mod case;
 mod find;
+mod opening;
 mod running;
 mod slip;
 mod slips;
@@ -13,6 +14,6 @@ mod theorems;
 
 pub use call::{Answer, Call};
 pub use case::Case;
-pub use running::run;
-pub use slip::Slip;
-pub use theorems::slips_stay_as_drawn;
+pub use running::{Outcome, run};
+pub use slip::{Slip, SlipData};
+pub use theorems::{calls_keep_the_law, next_call_keeps_the_law, slips_stay_as_drawn};

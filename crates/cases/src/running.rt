@@ -1,42 +1,114 @@
 //! Lists of calls, made one after another on a fresh case.
 
-ghost use Rattle.std.specs.Prelude.{◌≡◌, ℕ, Ok, Err, IfOk, MatchResult};
+ghost use Rattle.std.specs.Prelude.{◌≡◌, List, Some, MatchResult, IfOk};
 ghost use Rattle.deciders.specs.Reaching.{Same};
-ghost use Rattle.cases.specs.Plain.{drawing};
-ghost use Rattle.cases.specs.State.{view, drawn};
-ghost use Rattle.cases.specs.Making.{Makes, Made};
-ghost use Rattle.cases.specs.Law.{Law, paired};
+ghost use Rattle.waivers.specs.Known.{Listed};
+ghost use Rattle.cases.specs.State.{known_of};
+ghost use Rattle.cases.specs.View.{view};
+ghost use Rattle.cases.specs.Calls.{Entry, entry_of, Recorded};
+ghost use Rattle.cases.specs.Slips.{content_of, InHand, SaysOther};
+ghost use Rattle.cases.specs.Making.{Draws, Signs, Tears, Makes};
+ghost use Rattle.cases.specs.Law.{Law};
 
 use crate::call::{Answer, Call};
 use crate::case::Case;
-use crate::slip::Slip;
+use crate::slip::{Slip, SlipData};
 use deciders::Decider;
 use pickers::Picker;
-use rules::{Facts, Refusal};
+use rules::Refusal;
 use std::alloc::{AllocFailed, Global};
 
-/// Draws a slip, and says what it says.
-fn draw(case: &mut Case) -> Result<(u32, Facts), Refusal>
-    ensures answer { result ≡ drawing (view case.old).plain }
-    ensures after { view case.new ≡ drawn (drawing (view case.old).plain) (view case.old) }
-{
-    let Slip { number, set } = case.draw()?;
-    Ok((number, set))
+/// What a list of calls comes to: what each call answered, the case then, and its slip where one is out.
+pub struct Outcome {
+    pub answers: Vec<Answer>,
+    pub case: Case,
+    pub slip: Option<Slip>,
 }
 
-/// What was decided of a slip. One that is handed back goes no further.
-fn without_slip(decided: Result<(), (Slip, Refusal)>) -> Result<(), Refusal>
-    ensures { MatchResult decided (λ _. result ≡ Ok tt) (λ e. result ≡ Err e.1) }
+/// Draws a slip. While one is in hand the case refuses, and no other is drawn.
+fn draw(case: &mut Case, in_hand: Option<Slip>) -> (Result<SlipData, Refusal>, Option<Slip>)
+    requires { InHand (view case.old).plain in_hand }
+    ensures draws { Draws (view case.old) result.0 (view case.new) }
+    ensures in_hand { InHand (view case.new).plain result.1 }
 {
-    match decided {
-        Ok(()) => Ok(()),
-        Err((Slip { number: _, set: _ }, refusal)) => Err(refusal),
+    if let Some(slip) = in_hand {
+        return (Err(Refusal::SlipOut), Some(slip));
+    }
+    match case.draw() {
+        Ok(slip) => (Ok(slip.content()), Some(slip)),
+        Err(refusal) => (Err(refusal), None),
     }
 }
 
-/// Makes one call.
-fn make<D: Decider, P: Picker>(case: &mut Case, decider: &mut D, picker: &P, call: Call) -> Answer
-    ensures makes { Makes (P.choice picker.now) (D.reach decider.old) D.signed (view case.old) call result (view case.new) }
+/// The slip in hand, if it says this; else what is in hand stays there.
+fn take(in_hand: Option<Slip>, content: SlipData) -> Result<Slip, Option<Slip>>
+    ensures { MatchResult result
+        (λ slip. (in_hand ≡ Some slip) × (content_of slip ≡ content))
+        (λ left. (left ≡ in_hand) × SaysOther content in_hand) }
+{
+    match in_hand {
+        Some(slip) => {
+            if slip.content() == content {
+                Ok(slip)
+            } else {
+                Err(Some(slip))
+            }
+        }
+        None => Err(None),
+    }
+}
+
+/// Signs the slip in hand, if it says this. What says anything else is not the slip that is out, and the case refuses it.
+fn sign(
+    case: &mut Case,
+    in_hand: Option<Slip>,
+    content: SlipData,
+) -> (Result<(), Refusal>, Option<Slip>)
+    requires { InHand (view case.old).plain in_hand }
+    ensures signs { Signs content (view case.old) result.0 (view case.new) }
+    ensures in_hand { InHand (view case.new).plain result.1 }
+{
+    match take(in_hand, content) {
+        Err(in_hand) => (case.check_slip(content), in_hand),
+        Ok(slip) => match case.sign(slip) {
+            Ok(()) => (Ok(()), None),
+            Err((slip, refusal)) => (Err(refusal), Some(slip)),
+        },
+    }
+}
+
+/// Tears the slip in hand, if it says this. What says anything else is not the slip that is out, and the case refuses it.
+fn tear(
+    case: &mut Case,
+    in_hand: Option<Slip>,
+    content: SlipData,
+) -> (Result<(), Refusal>, Option<Slip>)
+    requires { InHand (view case.old).plain in_hand }
+    ensures tears { Tears content (view case.old) result.0 (view case.new) }
+    ensures in_hand { InHand (view case.new).plain result.1 }
+{
+    match take(in_hand, content) {
+        Err(in_hand) => (case.check_slip(content), in_hand),
+        Ok(slip) => match case.tear(slip) {
+            Ok(()) => (Ok(()), None),
+            Err((slip, refusal)) => (Err(refusal), Some(slip)),
+        },
+    }
+}
+
+/// Makes one call. The slip that is out, if one is, comes in hand and goes on in hand.
+fn make<D: Decider, P: Picker>(
+    case: &mut Case,
+    in_hand: Option<Slip>,
+    decider: &mut D,
+    picker: &P,
+    call: Call,
+) -> (Answer, Option<Slip>)
+    requires { InHand (view case.old).plain in_hand }
+    ensures makes { (e : Entry) × (entry_of call result.0 ≡ Some e)
+        × Makes (P.choice picker.now) (D.reach decider.old) D.MARK
+        (view case.old) e.asked e.answered (view case.new) }
+    ensures in_hand { InHand (view case.new).plain result.1 }
     ensures same { Same (D.reach decider.old) (D.reach decider.new) }
 {
     match call {
@@ -45,32 +117,37 @@ fn make<D: Decider, P: Picker>(case: &mut Case, decider: &mut D, picker: &P, cal
             n,
             standing,
             order,
-        } => Answer::Done(case.open(number, n, standing, order)),
-        Call::Grant(set) => Answer::Done(case.grant(set)),
-        Call::Lapse(set) => Answer::Done(case.lapse(set)),
-        Call::Put { place, step } => Answer::Done(case.put(place, step)),
-        Call::Withdraw(place) => Answer::Done(case.withdraw(place)),
-        Call::Carry(place) => Answer::Done(case.carry(place)),
-        Call::Order(set) => Answer::Done(case.order(set)),
-        Call::Cancel(set) => Answer::Done(case.cancel(set)),
+        } => (Answer::Done(case.open(number, n, standing, order)), in_hand),
+        Call::Change(change) => (Answer::Done(case.change(change)), in_hand),
         Call::Find {
             mut sheet,
             mut book,
         } => {
             let result = case.find(decider, picker, sheet.as_mut_slice(), book.as_mut_slice());
-            Answer::Found {
+            let found = Answer::Found {
                 result,
                 sheet,
                 book,
-            }
+            };
+            (found, in_hand)
         }
-        Call::Draw => Answer::Drawn(draw(case)),
-        Call::Sign { number, set } => Answer::Done(without_slip(case.sign(Slip { number, set }))),
-        Call::Tear { number, set } => Answer::Done(without_slip(case.tear(Slip { number, set }))),
+        Call::Draw => {
+            let (drawn, in_hand) = draw(case, in_hand);
+            (Answer::Drawn(drawn), in_hand)
+        }
+        Call::Sign(content) => {
+            let (signed, in_hand) = sign(case, in_hand, content);
+            (Answer::Done(signed), in_hand)
+        }
+        Call::Tear(content) => {
+            let (torn, in_hand) = tear(case, in_hand, content);
+            (Answer::Done(torn), in_hand)
+        }
     }
 }
 
-/// Makes the calls in turn on a fresh case, refused or not, and hands back the answers, with the buffers of every find, and the case.
+/// Makes the calls in turn on a fresh case, refused or not, and hands back the answers, with the buffers of every find, the case, and
+/// its slip where one is out. Sign and tear are made with the slip that was drawn, if it says what they bring; else they are refused.
 ///
 /// All memory is reserved before the first call. Where there is none, no call is made, and the list is handed back. Whether there is, no
 /// contract says.
@@ -79,21 +156,28 @@ pub fn run<D: Decider, P: Picker>(
     decider: &mut D,
     picker: &P,
     calls: Vec<Call>,
-) -> Result<(Vec<Answer>, Case), AllocFailed<Vec<Call>>>
+) -> Result<Outcome, AllocFailed<Vec<Call>>>
     ensures law { MatchResult result
-        (λ v. Law (D.reach decider.old) D.signed calls.items v.0.items (view v.1))
+        (λ r. (es : List Entry) × Recorded calls.items r.answers.items es
+        × Law (P.choice picker.now) D.reach D.MARK decider.old es decider.new (view r.case))
         (λ e. (e.value ≡ calls) × (decider.new ≡ decider.old)) }
-    ensures made { IfOk result (λ v. Made (P.choice picker.now) (D.reach decider.old) D.signed (paired calls.items v.0.items) (view v.1)) }
+    ensures slip { IfOk result (λ r. InHand (view r.case).plain r.slip) }
     ensures same { Same (D.reach decider.old) (D.reach decider.new) }
 {
     let (Ok(mut case), Ok(mut answers)) = (Case::new(heap), Vec::with_capacity(heap, calls.len()))
     else {
         return Err(AllocFailed { value: calls });
     };
+    let mut slip = None;
     // Kept: a loop, since the law is its invariant.
     for call in calls {
-        let answer = make(&mut case, decider, picker, call);
+        let (answer, in_hand) = make(&mut case, slip, decider, picker, call);
+        slip = in_hand;
         answers.push_reserved(answer);
     }
-    Ok((answers, case))
+    Ok(Outcome {
+        answers,
+        case,
+        slip,
+    })
 }

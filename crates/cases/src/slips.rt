@@ -1,92 +1,98 @@
 //! Drawing, signing and tearing slips.
 
-ghost use Rattle.std.specs.Prelude.{◌≡◌, Ok, Err, MatchResult};
-ghost use Rattle.rules.specs.Refusals.{after};
-ghost use Rattle.cases.specs.Plain.{drawing, given};
-ghost use Rattle.cases.specs.State.{view, drawn, signed, torn, drawn_and_signed};
-ghost use Rattle.cases.specs.Slips.{set_on, slip_data, deciding_on, HandsBack};
+ghost use Rattle.std.specs.Prelude.{◌≡◌, Ok, IfOk, IfErr};
+ghost use Rattle.rules.specs.Planning.{Solvable};
+ghost use Rattle.cases.specs.Refusing.{case_refusal};
+ghost use Rattle.cases.specs.Calls.{Signing, Tearing};
+ghost use Rattle.cases.specs.State.{state_signed, state_with_slip};
+ghost use Rattle.cases.specs.View.{view};
+ghost use Rattle.cases.specs.Slips.{content_of, drawn_content, decision_of};
+ghost use Rattle.cases.specs.Making.{Draws, Signs, Tears, DrawsAndSigns};
 
 use crate::case::Case;
-use crate::slip::Slip;
-use rules::{Facts, Refusal};
+use crate::slip::{Slip, SlipData};
+use rules::Refusal;
 
 impl Case {
-    /// Draws a slip for the finding. While it is out, the case refuses every call but sign, tear and the plan check.
+    /// Draws a slip for the finding. While it is out, the case refuses every call but sign, tear and the plan check. Refused:
+    /// `Unopened`, `SlipOut`, `NoFinding`.
     pub fn draw(&mut self) -> Result<Slip, Refusal>
-        ensures answer { slip_data result ≡ drawing (view self.old).plain }
-        ensures after { view self.new ≡ drawn (drawing (view self.old).plain) (view self.old) }
+        ensures { Draws (view self.old) (drawn_content result) (view self.new) }
     {
         self.check_usable()?;
         let finding = self.finding.filter(|set| *set != 0);
         let set = finding.ok_or(Refusal::NoFinding)?;
         self.slip_out = true;
-        Ok(Slip {
+        let content = SlipData {
             number: self.number,
             set,
-        })
+        };
+        Ok(Slip { content })
     }
 
-    /// Refuses a slip that is not the one that is out.
-    fn check_slip(&self, slip: &Slip) -> Result<(), Refusal>
-        ensures { result ≡ deciding_on (view self.now).plain slip.now }
+    /// Refuses what is not said by the slip that is out.
+    pub(crate) fn check_slip(&self, content: SlipData) -> Result<(), Refusal>
+        ensures sign { result ≡ case_refusal (view self.now).plain (Signing content) }
+        ensures tear { result ≡ case_refusal (view self.now).plain (Tearing content) }
     {
         self.check_open()?;
-        if self.slip_out && self.number == slip.number && self.finding == Some(slip.set) {
+        if self.slip_out && self.number == content.number && self.finding == Some(content.set) {
             Ok(())
         } else {
             Err(Refusal::WrongSlip)
         }
     }
 
-    /// Uses up the slip that is out, and says its set. Any other slip is handed back.
-    fn use_up(&self, slip: Slip) -> Result<Facts, (Slip, Refusal)>
-        ensures { MatchResult result (λ s. (s ≡ set_on slip) × (deciding_on (view self.now).plain slip ≡ Ok tt)) (λ e. (e.0 ≡ slip) × (deciding_on (view self.now).plain slip ≡ Err e.1)) }
+    /// Uses up the slip that is out: its set is waived for good, the finding forgotten, and the group list emptied.
+    fn waive(&mut self, slip: Slip)
+        requires { case_refusal (view self.old).plain (Signing (content_of slip)) ≡ Ok tt }
+        ensures after { view self.new ≡ state_signed (content_of slip) (view self.old) }
+        ensures plan { Solvable (view self.new).plain.task 0 }
     {
-        match self.check_slip(&slip) {
-            Ok(()) => {
-                let Slip { number: _, set } = slip;
-                Ok(set)
-            }
-            Err(refusal) => Err((slip, refusal)),
-        }
-    }
-
-    /// Waives a set for good: the finding is forgotten, the group list emptied, and the slip is in.
-    fn waive(&mut self, set: Facts)
-        ensures { view self.new ≡ signed «set» (view self.old) }
-    {
-        self.known.waive(set);
+        let Slip { content } = slip;
+        self.known.waive(content.set);
         self.finding = None;
         self.slip_out = false;
     }
 
-    /// Draws a slip for the finding and signs it at once.
-    pub fn draw_and_sign(&mut self) -> Result<(), Refusal>
-        ensures answer { result ≡ given (drawing (view self.old).plain) }
-        ensures after { view self.new ≡ drawn_and_signed (drawing (view self.old).plain) (view self.old) }
-    {
-        let Slip { number: _, set } = self.draw()?;
-        self.waive(set);
-        Ok(())
-    }
-
-    /// Signs a slip: its set is waived, the finding is forgotten and the group list emptied. A refusal hands the slip back.
+    /// Signs a slip: its set is waived, the finding is forgotten and the group list emptied, and the case has a plan. A refusal
+    /// hands the slip back: `Unopened`, `WrongSlip`.
     pub fn sign(&mut self, slip: Slip) -> Result<(), (Slip, Refusal)>
-        ensures answer { HandsBack slip (deciding_on (view self.old).plain slip) result }
-        ensures after { view self.new ≡ after (deciding_on (view self.old).plain slip) (signed (set_on slip)) (view self.old) }
+        ensures signs { Signs (content_of slip)
+            (view self.old) (decision_of result) (view self.new) }
+        ensures back { IfErr result (λ e. e.0 ≡ slip) }
     {
-        let set = self.use_up(slip)?;
-        self.waive(set);
+        if let Err(refusal) = self.check_slip(slip.content) {
+            return Err((slip, refusal));
+        }
+        self.waive(slip);
         Ok(())
     }
 
-    /// Tears a slip: only that it is in changes. A refusal hands the slip back.
+    /// Tears a slip: only that it is in changes. A refusal hands the slip back: `Unopened`, `WrongSlip`.
     pub fn tear(&mut self, slip: Slip) -> Result<(), (Slip, Refusal)>
-        ensures answer { HandsBack slip (deciding_on (view self.old).plain slip) result }
-        ensures after { view self.new ≡ after (deciding_on (view self.old).plain slip) torn (view self.old) }
+        ensures tears { Tears (content_of slip)
+            (view self.old) (decision_of result) (view self.new) }
+        ensures back { IfErr result (λ e. e.0 ≡ slip) }
     {
-        self.use_up(slip)?;
-        self.slip_out = false;
+        match self.check_slip(slip.content) {
+            Err(refusal) => Err((slip, refusal)),
+            Ok(()) => {
+                let Slip { content: _ } = slip;
+                self.slip_out = false;
+                Ok(())
+            }
+        }
+    }
+
+    /// Draws a slip for the finding and signs it at once; the case has a plan then. Once it is drawn, it can't be
+    /// refused. Refused: `Unopened`, `SlipOut`, `NoFinding`.
+    pub fn draw_and_sign(&mut self) -> Result<(), Refusal>
+        ensures both { DrawsAndSigns (view self.old) result (view self.new) }
+        ensures plan { IfOk result (λ u. Solvable (view self.new).plain.task 0) }
+    {
+        let slip = self.draw()?;
+        self.waive(slip);
         Ok(())
     }
 }

@@ -21,14 +21,14 @@ use random::{Tally, compare};
 #[derive(Drop)]
 enum RunFault {
     /// A step is refused.
-    Refused(Refusal),
+    Refused,
     /// A line can't be printed.
     Unprinted(io::Error),
 }
 
 impl From<Refusal> for RunFault {
-    fn from(refusal: Refusal) -> RunFault {
-        RunFault::Refused(refusal)
+    fn from(_refusal: Refusal) -> RunFault {
+        RunFault::Refused
     }
 }
 
@@ -116,11 +116,19 @@ fn run_large(rt: &HostRuntime, count: &Problem, switched: &Problem) -> io::Resul
 }
 
 fn run(rt: &HostRuntime) -> Result<(), RunFault> {
-    let case = licence()?;
-    run_free(rt, &free_facts()?)?;
+    // Kept: `?` on a problem gets no proof, since its table holds steps, which have a model.
+    let (Ok(free), Ok(case), Ok(count), Ok(switched)) = (
+        free_facts(),
+        licence(),
+        counter(),
+        switches(),
+    ) else {
+        return Err(RunFault::Refused);
+    };
+    run_free(rt, &free)?;
     run_licence(rt, &case)?;
     run_limits(rt, &case)?;
-    run_large(rt, &counter()?, &switches()?)?;
+    run_large(rt, &count, &switched)?;
     let Tally {
         solvable,
         blocked,
@@ -136,7 +144,7 @@ fn run(rt: &HostRuntime) -> Result<(), RunFault> {
 fn main(rt: HostRuntime) -> io::Result<()> {
     match run(&rt) {
         Ok(()) => Ok(()),
-        Err(RunFault::Refused(_)) => println!(rt; "a step was refused"),
+        Err(RunFault::Refused) => println!(rt; "a step was refused"),
         Err(RunFault::Unprinted(error)) => Err(error),
     }
 }

@@ -6,13 +6,7 @@ use rules::{Problem, Refusal, Standing, Step, StepTable};
 pub(crate) fn free_facts() -> Result<Problem, Refusal> {
     let mut table = StepTable::new();
     for fact in 0..3u8 {
-        table.put(
-            fact,
-            Step {
-                gives: 1 << fact,
-                ..Step::default()
-            },
-        )?;
+        table.put(fact, Step::new(0, 1 << fact, 0)?)?;
     }
     Ok(Problem {
         n: 4,
@@ -26,22 +20,8 @@ pub(crate) fn free_facts() -> Result<Problem, Refusal> {
 /// Fact 1 stands and fact 3 is ordered. Step 0 needs 1 and 2, gives 3 and takes 1; step 1 needs 0 and gives 2.
 pub(crate) fn licence() -> Result<Problem, Refusal> {
     let mut table = StepTable::new();
-    table.put(
-        0,
-        Step {
-            needs: 0b0110,
-            gives: 0b1000,
-            takes: 0b0010,
-        },
-    )?;
-    table.put(
-        1,
-        Step {
-            needs: 0b0001,
-            gives: 0b0100,
-            takes: 0,
-        },
-    )?;
+    table.put(0, Step::new(0b0110, 0b1000, 0b0010)?)?;
+    table.put(1, Step::new(0b0001, 0b0100, 0)?)?;
     Ok(Problem {
         n: 4,
         standing: Standing { facts: 0b0010 },
@@ -59,11 +39,11 @@ pub(crate) fn counter() -> Result<Problem, Refusal> {
         let lower = digit - 1;
         table.put(
             i,
-            Step {
-                needs: (digit << 9) | lower,
-                gives: digit | (lower << 9),
-                takes: (digit << 9) | lower,
-            },
+            Step::new(
+                (digit << 9) | lower,
+                digit | (lower << 9),
+                (digit << 9) | lower,
+            )?,
         )?;
     }
     Ok(Problem {
@@ -80,30 +60,10 @@ pub(crate) fn switches() -> Result<Problem, Refusal> {
     let mut table = StepTable::new();
     for i in 0..12u8 {
         let fact = 1u32 << i;
-        table.put(
-            2 * i,
-            Step {
-                gives: fact,
-                ..Step::default()
-            },
-        )?;
-        table.put(
-            2 * i + 1,
-            Step {
-                needs: fact,
-                gives: 0,
-                takes: fact,
-            },
-        )?;
+        table.put(2 * i, Step::new(0, fact, 0)?)?;
+        table.put(2 * i + 1, Step::new(fact, 0, fact)?)?;
     }
-    table.put(
-        24,
-        Step {
-            needs: 1 << 12,
-            gives: 1 << 13,
-            takes: 0,
-        },
-    )?;
+    table.put(24, Step::new(1 << 12, 1 << 13, 0)?)?;
     Ok(Problem {
         n: 14,
         standing: Standing { facts: 0 },

@@ -1,7 +1,7 @@
 -- The steps that are left once facts are struck out: how their list is made, and that it lists what the places list.
 use Rattle.std.proofs.Common.{◌≡◌, ℕ, zero, suc, ◌+◌, ◌-◌, ◌<◌, ◌≤◌, cond, ltb, List, [], ◌∷◌, map, length, get_or, drop, Some, None, Option, refl, ap, ◌∙◌, arith}
 use Rattle.std.proofs.lemmas.Grind.{common_steps}
-use Rattle.rules.specs.declared.step.Step.{Step}
+use Rattle.rules.specs.Steps.{Step}
 use Rattle.rules.specs.Planning.{place_without}
 use Rattle.rules.specs.Listing.{Successor, adding_made, expanded, listing}
 use Rattle.deciders.specs.declared.struck.Action.{Action}

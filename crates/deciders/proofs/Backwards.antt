@@ -1,15 +1,20 @@
 -- What a backward search says of plans.
-use Rattle.std.proofs.Common.{◌≡◌, ℕ, Bool, true, false, cond, T, List, [], ◌∷◌, ◌++◌, reverse, get_or, Some, None, sym, refl, ap, ◌∙◌, subst, inl, inr, arith}
+use Rattle.std.proofs.Common.{◌≡◌, ℕ, Bool, true, false, cond, T, List, [], ◌∷◌, ◌++◌, reverse, length, get_or, take, Some, None, Ok, Err, Result, sym, refl, ap, ◌∙◌, subst, inl, inr, arith}
 use mathlib.Core.List.{reverse-append, reverse-reverse}
-use Rattle.rules.specs.declared.step.Step.{Step}
+use Rattle.rules.specs.Steps.{Step, IsClear}
 use Rattle.rules.specs.Sets.{bit, ◌⊆◌, ◌∪◌, ◌∖◌, Meets, shares}
 use Rattle.rules.specs.Planning.{Task, held, done, Walk, Plan, strike, gone, Consistent}
 use Rattle.rules.specs.Listing.{Path, forward}
-use Rattle.rules.proofs.Sets.{bits, meets_or_apart, apart→, share_test, test_share}
+use Rattle.rules.proofs.Sets.{bits, meets_or_apart, apart→, →apart, apart_without, share_test, test_share}
 use Rattle.rules.proofs.Plans.{held_struck, some_without, leads→, →leads}
 use Rattle.rules.proofs.Listing.{T→true, path_push, listed_reached, reached_listed}
 use Rattle.rules.proofs.Forwards.{forward_walks, →forward}
-use Rattle.deciders.specs.Reaches.{backward}
+use Rattle.deciders.specs.declared.answer.Verdict.{Verdict}
+use Rattle.deciders.specs.declared.answer.Verdict.TheVariants as verdict
+use Rattle.deciders.specs.declared.answer.DeciderFault.{DeciderFault}
+use Rattle.deciders.specs.Answers.{Answers}
+use Rattle.deciders.specs.Searches.{Finds}
+use Rattle.deciders.specs.Reaches.{backward, BackwardReach}
 use Rattle.deciders.specs.Theorems.{wanted, WantedLeads, LeadsWanted, WantedBlocked, BackwardExample}
 
 -- ---- a step leads backward exactly where it gives a fact that is wanted and takes none
@@ -62,7 +67,7 @@ module _ (p : Task) (sane : Consistent p) where
   regress [] s e q o = (p.order, [], refl, λ f. omega (arith, o f, ap (λ n. bit n f) q))
   regress (i ∷ l) s e (t, is, can, on) o =
       let (v, k, path, sub) = regress l (done t s) e on o in
-      let a = apart→ t.gives t.takes (sane i t is) in
+      let a = apart→ t.gives t.takes (→apart t.gives t.takes (sane i t is)) in
       elim (meets_or_apart t.gives v) [
         | inl meets ↦ (
           before t v,
@@ -89,18 +94,24 @@ wanted_blocked p m sane whole away l plan =
 -- ---- striking out leaves no step that gives what it takes
 
 pub struck_consistent : (p : Task) (x : ℕ) → Consistent p → Consistent (strike p x)
-struck_consistent p x sane i t e (f, y, z) =
+struck_consistent p x sane i t e =
     let (u, has, q) = some_without (gone p x) (held p i) t (sym (held_struck p x i) ∙ e) in
-    sane i u has (
-      f,
-      omega (arith, bits, y, ap (λ (v : Step). bit v.gives f) q),
-      omega (arith, bits, z, ap (λ (v : Step). bit v.takes f) q),
-    )
+    subst IsClear q (apart_without u.gives u.takes (gone p x) (sane i u has))
 
 pub backward_plan : (p : Task) (l : List ℕ) (w : ℕ) → Path backward p.steps p.order (reverse l) w → w ⊆ p.standing → Plan p l
 backward_plan p l w path sub =
     let (e, walk, o) = back_walk p (reverse l) p.order w p.standing path sub in
     →leads p p.standing l e (subst (λ k. Walk p.steps p.standing k e) (reverse-reverse l) walk) o
+
+-- what a backward search finds is what a decider has to answer
+pub backward_answers : (p : Task) (x m mark : ℕ) (book book' : List ℕ) (r : Result Verdict DeciderFault) → Consistent p
+    → Finds backward (λ w. w ⊆ (strike p x).standing) (strike p x).steps (strike p x).order x mark m book book' r
+    → Answers (BackwardReach p x m (length book)) mark p x m book book' r
+backward_answers p x m mark book book' (Ok (verdict.Solvable k)) sane (reach, few, (w, path, sub), rest) =
+    (reach, few, backward_plan (strike p x) (take k book') w path sub, rest)
+backward_answers p x m mark book book' (Ok verdict.Blocked) sane (reach, (n, whole, none), same) =
+    (reach, λ (l, plan). wanted_blocked (strike p x) n (struck_consistent p x sane) whole none l plan, same)
+backward_answers p x m mark book book' (Err e) sane found = found
 
 -- ---- the worked example
 

@@ -2,7 +2,7 @@
 use Rattle.std.proofs.Common.{Bool, true, false, not, IsTrue, ◌↔◌, ◌≡◌, ℕ, zero, suc, ◌+◌, ◌<◌, ◌≤◌, ◌⊎◌, List, [], ◌∷◌, map, length, get_or, Some, None, Option, refl, sym, ap, ◌∙◌, subst, inl, inr, arith}
 use Rattle.std.proofs.lemmas.Bool.{cases_eq}
 use Rattle.std.proofs.lemmas.Grind.{common_steps}
-use Rattle.rules.specs.declared.step.Step.{Step}
+use Rattle.rules.specs.Steps.{Step}
 use Rattle.rules.specs.Sets.{bit, ◌⊆◌, ◌∪◌, ◌∖◌}
 use Rattle.rules.specs.Planning.{Task, done, Leads, place_without, step_without, gone, strike}
 use Rattle.rules.proofs.Sets.{bits, sub_le, same_facts, inside_dec}

@@ -1,4 +1,5 @@
 -- Lemmas of the deciders.
+pub mod Sizes
 pub mod Chains
 pub mod Actions
 pub mod Climbs

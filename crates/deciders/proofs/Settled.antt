@@ -1,7 +1,7 @@
 -- What a sheet says of the rows that settle a search, and the paths that its rows are.
 use Rattle.std.proofs.Common.{◌≡◌, ℕ, ◌<◌, ◌≤◌, List, [], ◌∷◌, reverse, length, get_or, Some, None, Ok, Err, Option, sym, ap, ◌∙◌, subst, inl, inr, arith}
 use mathlib.Core.List.{reverse-append}
-use Rattle.rules.specs.declared.step.Step.{Step}
+use Rattle.rules.specs.Steps.{Step}
 use Rattle.rules.specs.Listing.{Successor, listing, Whole, Settles, Path}
 use Rattle.rules.proofs.Listing.{listing_stays, path_push}
 use Rattle.deciders.specs.declared.row.Row.{Row}

@@ -2,7 +2,7 @@
 use Rattle.std.proofs.Common.{◌≡◌, ℕ, ◌+◌, ◌<◌, ◌≤◌, true, false, cond, List, [], ◌∷◌, ◌++◌, length, get_or, drop, set, Some, None, Ok, Err, Option, Result, sym, ap, ◌∙◌, add-one, arith}
 use Rattle.std.proofs.lemmas.Bool.{lt-ltb}
 use Rattle.std.proofs.lemmas.Grind.{common_steps}
-use Rattle.std.proofs.lemmas.List.{at_drop_more}
+use Rattle.std.proofs.lemmas.List.{at_drop_more, get_or_default}
 use Rattle.rules.specs.Listing.{Successor, listed, adding_made, expanded, listing}
 use Rattle.rules.proofs.Listing.{begins_expanded, listing_stays}
 use Rattle.deciders.specs.declared.row.Row.{Row}
@@ -29,6 +29,10 @@ away_more : (Wanted : ℕ → Type 0) (sheet : List Row) (n : ℕ) (r : Row) →
 away_more Wanted sheet n r fits x isnt i h w = grind (arith, common_steps, x i)
 
 -- ---- going through the actions at one entry
+
+-- an action of the list, read at itself
+pub action_at : (ws : List Action) (j : ℕ) (w : Action) → w ≡ get_or ws j w → j < length ws → w ≡ get_or ws j no_action
+action_at ws j w is h = is ∙ get_or_default ws j w no_action h
 
 pub record Going (f : Successor) (Wanted : ℕ → Type 0) (ws : List Action) (start s k : ℕ) (l : List ℕ) (m : ℕ) (sheet : List Row) (n j : ℕ) : Type 0 where
   pub size : length sheet ≡ m

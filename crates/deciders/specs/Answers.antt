@@ -1,15 +1,11 @@
 -- What a decider answers, and what a fault of a decider says in a report.
-use Rattle.std.specs.Prelude.{◌≡◌, ℕ, ◌<◌, ◌≤◌, Bool, List, take, drop, Ok, Err, Result, ◌==◌}
+use Rattle.std.specs.Prelude.{◌≡◌, ℕ, ◌<◌, Bool, List, take, drop, Ok, Err, Result, ◌==◌}
 use Rattle.std.specs.Ordering.{on, eq_of_both}
 use Rattle.rules.specs.Planning.{Task, Plan, strike, Blocked}
 use Rattle.deciders.specs.declared.answer.Verdict.{Verdict}
 use Rattle.deciders.specs.declared.answer.Verdict.TheVariants as verdict
 use Rattle.deciders.specs.declared.answer.DeciderFault.{DeciderFault}
 use Rattle.deciders.specs.declared.answer.DeciderFault.TheVariants.{BeyondReach}
-
--- a sheet of m rows and a plan book of b places keep the size limits
-abbrev pub Sized : ℕ → ℕ → Type 0
-Sized m b = (0 < m) × (m ≤ 4096) × (m ≤ b) × (b ≤ 4096)
 
 -- a fault's number, its layer, and its values: the queried set and the decider's mark
 abbrev pub reported : DeciderFault → ℕ × ℕ × ℕ × ℕ
@@ -19,9 +15,12 @@ reported (BeyondReach s k) = (21, 4, s, k)
 abbrev pub same_fault : DeciderFault → DeciderFault → Bool
 same_fault = eq_of_both (on (λ e. (reported e).2) ◌==◌) (on (λ e. (reported e).3) ◌==◌)
 
--- The answer to a query for the task p without x, with m rows, and what the plan book holds before and after.
--- R says whether the query is in reach. Inside it, the answer is solvable with a plan, or blocked, and there is no plan; outside it, a fault.
-abbrev pub Answers : Type 0 → ℕ → Task → ℕ → ℕ → List ℕ → List ℕ → Result Verdict DeciderFault → Type 0
-Answers R mark p x m book book' (Ok (verdict.Solvable k)) = R × (k < m) × Plan (strike p x) (take k book') × (drop k book' ≡ drop k book)
+-- The answer to a query for the task p without x, with m rows, and what the plan book holds before
+-- and after. R says whether the query is in reach. Inside it, the answer is solvable with a plan,
+-- or blocked, and there is no plan; outside it, a fault.
+abbrev pub Answers : Type 0 → ℕ → Task → ℕ → ℕ
+    → List ℕ → List ℕ → Result Verdict DeciderFault → Type 0
+Answers R mark p x m book book' (Ok (verdict.Solvable k)) =
+    R × (k < m) × Plan (strike p x) (take k book') × (drop k book' ≡ drop k book)
 Answers R mark p x m book book' (Ok verdict.Blocked) = R × Blocked p x × (book' ≡ book)
 Answers R mark p x m book book' (Err e) = (R → ⊥) × (reported e ≡ (21, 4, x, mark)) × (book' ≡ book)

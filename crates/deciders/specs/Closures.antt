@@ -1,6 +1,6 @@
 -- The closure of a standing under steps, takes ignored.
 use Rattle.std.specs.Prelude.{◌≡◌, ℕ, ◌<◌, List, Some, None, Option, slice_index_or}
-use Rattle.rules.specs.declared.step.Step.{Step}
+use Rattle.rules.specs.Steps.{Step}
 use Rattle.rules.specs.Sets.{◌⊆◌}
 
 -- with the needs of a step, the set c has its gives
@@ -15,8 +15,10 @@ Closed ts s c = (s ⊆ c) × Under ts c
 abbrev pub Closure : List (Option Step) → ℕ → ℕ → Type 0
 Closure ts s c = Closed ts s c × ((d : ℕ) → Closed ts s d → c ⊆ d)
 
--- One round of closing: r is c with the gives of those of the first n steps whose needs are in c, and with nothing but what has to be there.
+-- One round of closing: r is c with the gives of those of the first n steps whose needs are in c,
+-- and with nothing but what has to be there.
 pub record Round (ts : List (Option Step)) (n c r : ℕ) : Type 0 where
   pub grows : c ⊆ r
   pub least : (d : ℕ) → Under ts d → c ⊆ d → r ⊆ d
-  pub all : (i : ℕ) (t : Step) → i < n → slice_index_or ts i None ≡ Some t → t.needs ⊆ c → t.gives ⊆ r
+  pub all : (i : ℕ) (t : Step) → i < n → slice_index_or ts i None ≡ Some t
+      → t.needs ⊆ c → t.gives ⊆ r

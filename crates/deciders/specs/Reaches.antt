@@ -3,25 +3,31 @@ use Rattle.std.specs.Prelude.{ℕ, cond, ◌⊎◌, Some, None}
 use Rattle.rules.specs.Sets.{◌⊆◌, ◌∪◌, ◌∖◌, shares}
 use Rattle.rules.specs.Planning.{Task, strike}
 use Rattle.rules.specs.Listing.{Successor, Settles, forward}
-use Rattle.deciders.specs.Answers.{Sized}
+use Rattle.deciders.specs.Sizes.{Sized}
 use Rattle.deciders.specs.Closures.{Closure}
 
 -- Forward lists standings, from the standing on, until one contains the order.
 abbrev pub ForwardReach : Task → ℕ → ℕ → ℕ → Type 0
-ForwardReach p x m b = Sized m b × Settles forward (strike p x).steps (strike p x).standing (λ s. (strike p x).order ⊆ s) m
+ForwardReach p x m b =
+    let q = strike p x in Sized m b × Settles forward q.steps q.standing (λ s. q.order ⊆ s) m
 
--- backward: by a step that gives a fact of w and takes none of it, w without the gives and then with the needs
+-- backward: by a step that gives a fact of w and takes none of it, w without the gives and then
+-- with the needs
 abbrev pub backward : Successor
-backward t w = cond (shares t.gives w) (cond (shares t.takes w) None (Some ((w ∖ t.gives) ∪ t.needs))) None
+backward t w =
+    cond (shares t.gives w) (cond (shares t.takes w) None (Some ((w ∖ t.gives) ∪ t.needs))) None
 
 -- Backward lists sets that are wanted, from the order on, until one is contained in the standing.
 abbrev pub BackwardReach : Task → ℕ → ℕ → ℕ → Type 0
-BackwardReach p x m b = Sized m b × Settles backward (strike p x).steps (strike p x).order (λ w. w ⊆ (strike p x).standing) m
+BackwardReach p x m b =
+    let q = strike p x in Sized m b × Settles backward q.steps q.order (λ w. w ⊆ q.standing) m
 
--- the order cannot stand even if no step takes anything: it is not inside the closure of the standing
+-- the order cannot stand even if no step takes anything: it is not inside the closure of the
+-- standing
 abbrev pub ScreenedOut : Task → Type 0
 ScreenedOut p = (c : ℕ) × Closure p.steps p.standing c × (p.order ⊆ c → ⊥)
 
--- A screen settles what the decider below it settles, in its reach R, and within the size limits what it blocks itself.
+-- A screen settles what the decider below it settles, in its reach R, and within the size limits
+-- what it blocks itself.
 abbrev pub ScreenReach : (Task → ℕ → ℕ → ℕ → Type 0) → Task → ℕ → ℕ → ℕ → Type 0
 ScreenReach R p x m b = Sized m b × (R p x m b ⊎ ScreenedOut (strike p x))

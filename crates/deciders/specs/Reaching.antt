@@ -1,4 +1,5 @@
--- The reach of a decider stays. Each contract says so: the reach may hang on the decider, and a query changes that.
+-- The reach of a decider stays. Each contract says so: the reach may hang on the decider, and a
+-- query changes that.
 use Rattle.std.specs.Prelude.{ℕ}
 use Rattle.rules.specs.Planning.{Task}
 

@@ -1,6 +1,6 @@
 -- What is left of a task once facts are struck out, as a search takes it.
 use Rattle.std.specs.Prelude.{ℕ, ◌+◌, List, [], ◌∷◌, map, Some, None, Option}
-use Rattle.rules.specs.declared.step.Step.{Step}
+use Rattle.rules.specs.Steps.{Step}
 use Rattle.rules.specs.Planning.{Task, strike}
 use Rattle.deciders.specs.declared.struck.Action.{Action}
 use Rattle.deciders.specs.declared.struck.StruckOut.{StruckOut}

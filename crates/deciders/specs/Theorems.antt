@@ -1,6 +1,6 @@
 -- What is proved of the searches.
 use Rattle.std.specs.Prelude.{◌≡◌, ℕ, ◌<◌, List, reverse, length, Some, Option, slice_index, slice_index_or}
-use Rattle.rules.specs.declared.step.Step.{Step}
+use Rattle.rules.specs.Steps.{Step}
 use Rattle.rules.specs.Sets.{◌⊆◌}
 use Rattle.rules.specs.Planning.{Task, held, Walk, Plan, Consistent}
 use Rattle.rules.specs.Examples.{C}
@@ -12,13 +12,16 @@ use Rattle.deciders.specs.Reaches.{backward, ScreenedOut}
 abbrev pub wanted : Task → ℕ → List ℕ
 wanted p k = listing backward p.steps p.order k
 
--- From any standing that contains a set that is listed, the places of its path, in the opposite order, are a walk to a standing with the order.
+-- From any standing that contains a set that is listed, the places of its path, in the opposite
+-- order, are a walk to a standing with the order.
 abbrev pub WantedLeads : Type 0
 WantedLeads = (p : Task) (m i : ℕ) → i < length (wanted p m)
     → (l : List ℕ) × Path backward p.steps p.order l (slice_index (wanted p m) i)
-    × ((s : ℕ) → slice_index_or (wanted p m) i 0 ⊆ s → (e : ℕ) × Walk p.steps s (reverse l) e × (p.order ⊆ e))
+    × ((s : ℕ) → slice_index_or (wanted p m) i 0 ⊆ s
+    → (e : ℕ) × Walk p.steps s (reverse l) e × (p.order ⊆ e))
 
--- Where no step gives a fact that it takes, a whole backward listing has a set for each standing from which the order can be reached, contained in it.
+-- Where no step gives a fact that it takes, a whole backward listing has a set for each standing
+-- from which the order can be reached, contained in it.
 abbrev pub LeadsWanted : Type 0
 LeadsWanted = (p : Task) (m : ℕ) → Consistent p → Whole backward p.steps p.order m
     → (s : ℕ) (l : List ℕ) (e : ℕ) → Walk p.steps s l e → p.order ⊆ e

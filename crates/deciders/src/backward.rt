@@ -6,7 +6,6 @@ ghost use Rattle.std.proofs.Common.{rules};
 
 use crate::answer::{DeciderFault, Verdict};
 use crate::decider::Decider;
-use crate::listing::Unsettled;
 use crate::row::Row;
 use crate::search::{Direction, Search};
 use crate::struck::StruckOut;
@@ -47,9 +46,9 @@ impl Direction for Backward {
 impl Decider for Backward {
     const MARK: u8 = b'B';
 
-    ghost reach = { λ _ p x m b. BackwardReach p x m b };
+    ghost MARK = { 66 };
 
-    ghost signed = { 66 };
+    ghost reach = { λ _ p x m b. BackwardReach p x m b };
 
     ghost within = { Prim.search rules };
 
@@ -60,17 +59,8 @@ impl Decider for Backward {
         sheet: &mut [Row],
         book: &mut [u8],
     ) -> Result<Verdict, DeciderFault> {
-        match self
-            .search
-            .find_way::<Backward>(problem, strike, sheet, book)
-        {
-            Ok(None) => Ok(Verdict::Blocked),
-            // the way up leads from a set that stands to the order
-            Ok(Some(length)) => Ok(Verdict::Solvable(length as u16)),
-            Err(Unsettled) => Err(DeciderFault::BeyondReach {
-                set: strike,
-                mark: Self::MARK,
-            }),
-        }
+        // the way is written from its end, a set that stands, and so it leads from there to the order
+        self.search
+            .answer::<Backward>(problem, strike, Self::MARK, sheet, book)
     }
 }

@@ -2,7 +2,8 @@
 
 ghost use Rattle.std.specs.Prelude.{◌≡◌, ℕ, length};
 ghost use Rattle.rules.specs.Planning.{Task, task};
-ghost use Rattle.deciders.specs.Answers.{Sized, Answers};
+ghost use Rattle.deciders.specs.Sizes.{Sized};
+ghost use Rattle.deciders.specs.Answers.{Answers};
 ghost use Rattle.deciders.specs.Reaching.{Same};
 
 use crate::answer::{DeciderFault, Verdict};
@@ -17,11 +18,11 @@ pub trait Decider {
     /// The mark of the decider's kind, which a fault carries.
     const MARK: u8;
 
+    // the mark, for clauses
+    ghost MARK: { ℕ };
+
     // reach d p x m b: with m rows and b places in the book, the decider d settles the task p without the facts of x
     ghost reach: { Self → Task → ℕ → ℕ → ℕ → Type 0 };
-
-    // the value of MARK, which no clause can name
-    ghost signed: { ℕ };
 
     /// Whether the problem has a plan without the facts of `strike`. The rows are free afterwards.
     // Kept: sheet and book are two slices of the caller's, each of its own size: a rule of the project.
@@ -32,7 +33,9 @@ pub trait Decider {
         sheet: &mut [Row],
         book: &mut [u8],
     ) -> Result<Verdict, DeciderFault>
-        ensures answer { Answers (reach self.old (task problem.now) strike (length sheet.old) (length book.old)) signed (task problem.now) strike (length sheet.old) book.old book.new result }
+        ensures answer { let p = task problem.now in let m = length sheet.old in
+            Answers (reach self.old p strike m (length book.old)) MARK
+            p strike m book.old book.new result }
         ensures same { Same (reach self.new) (reach self.old) };
 
     // what breaks a size limit is outside every reach

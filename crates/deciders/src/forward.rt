@@ -7,7 +7,6 @@ ghost use Rattle.std.proofs.Common.{rules};
 
 use crate::answer::{DeciderFault, Verdict};
 use crate::decider::Decider;
-use crate::listing::Unsettled;
 use crate::row::Row;
 use crate::search::{Direction, Search};
 use crate::struck::StruckOut;
@@ -47,9 +46,9 @@ impl Direction for Forward {
 impl Decider for Forward {
     const MARK: u8 = b'F';
 
-    ghost reach = { λ _ p x m b. ForwardReach p x m b };
+    ghost MARK = { 70 };
 
-    ghost signed = { 70 };
+    ghost reach = { λ _ p x m b. ForwardReach p x m b };
 
     ghost within = { Prim.search rules };
 
@@ -60,20 +59,14 @@ impl Decider for Forward {
         sheet: &mut [Row],
         book: &mut [u8],
     ) -> Result<Verdict, DeciderFault> {
-        // Kept: the match stands here and in `Backward`, since a clause of a generic function can't name a MARK.
-        match self
+        let verdict = self
             .search
-            .find_way::<Forward>(problem, strike, sheet, book)
-        {
-            Ok(None) => Ok(Verdict::Blocked),
-            Ok(Some(length)) => {
-                book[..length].reverse();
-                Ok(Verdict::Solvable(length as u16))
-            }
-            Err(Unsettled) => Err(DeciderFault::BeyondReach {
-                set: strike,
-                mark: Self::MARK,
-            }),
+            .answer::<Forward>(problem, strike, Self::MARK, sheet, book)?;
+        match verdict {
+            // the way is written from its end
+            Verdict::Solvable(length) => book[..usize::from(length)].reverse(),
+            Verdict::Blocked => {}
         }
+        Ok(verdict)
     }
 }

@@ -24,7 +24,8 @@ pub(crate) struct Index {
 }
 
 impl Default for Index {
-    ghost is_default = { λ i. (i.heads ≡ replicate 4096 0) × (i.links ≡ replicate 4096 0) × (i.start ≡ 0) };
+    ghost is_default = { λ i.
+        (i.heads ≡ replicate 4096 0) × (i.links ≡ replicate 4096 0) × (i.start ≡ 0) };
 
     fn default() -> Index {
         Index {
@@ -91,8 +92,10 @@ impl Index {
     pub(crate) fn enter(&mut self, row: usize, set: Facts)
         requires { row < 4096 }
         ensures start { self.new.start ≡ self.old.start }
-        ensures heads { self.new.heads ≡ slice_set self.old.heads (hash_of set) (self.old.start + row) }
-        ensures links { self.new.links ≡ slice_set self.old.links row (slice_index self.old.heads (hash_of set)) }
+        ensures heads { self.new.heads
+            ≡ slice_set self.old.heads (hash_of set) (self.old.start + row) }
+        ensures links { self.new.links
+            ≡ slice_set self.old.links row (slice_index self.old.heads (hash_of set)) }
     {
         let head = &mut self.heads[hash(set)];
         self.links[row] = *head;

@@ -20,7 +20,7 @@ pub use answer::{DeciderFault, Verdict};
 pub use backward::Backward;
 pub use decider::Decider;
 pub use forward::Forward;
-pub use limits::{MAX_PLACES, MAX_ROWS};
+pub use limits::{MAX_PLACES, MAX_ROWS, SizeFault, check_sizes};
 pub use row::Row;
 pub use screen::Screen;
 pub use theorems::{

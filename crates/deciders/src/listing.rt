@@ -23,7 +23,8 @@ pub(crate) struct Listing<'a> {
     index: &'a mut Index,
     ghost fits: { count ≤ length rows.now },
     ghost small: { length rows.now ≤ 4096 },
-    ghost indexed: { Indexed index.now.start index.now.heads index.now.links (entries rows.now count) } by { Prim.hlevel props },
+    ghost indexed: { let i = index.now in
+        Indexed i.start i.heads i.links (entries rows.now count) } by { Prim.hlevel props },
 }
 
 impl<'a> Listing<'a> {
@@ -45,7 +46,8 @@ impl<'a> Listing<'a> {
 
     /// The entry on the row `at`, if it is filled.
     pub(crate) fn get(&self, at: usize) -> Option<Facts>
-        ensures filled { IfSome result (λ s. (at < self.now.count) × ((row_of self.now.rows.now at).set ≡ s)) }
+        ensures filled { IfSome result (λ s. (row_of self.now.rows.now at).set ≡ s) }
+        ensures within { IfSome result (λ _. at < self.now.count) }
         ensures free { IfNone result (self.now.count ≤ at) }
     {
         (at < self.count).then(|| self.rows[at].set)

@@ -8,7 +8,7 @@ ghost use Rattle.std.proofs.Common.{rules};
 use crate::answer::{DeciderFault, Verdict};
 use crate::closure::closure_has;
 use crate::decider::Decider;
-use crate::limits::sizes_fit;
+use crate::limits::check_sizes;
 use crate::row::Row;
 use rules::{Facts, Problem};
 
@@ -32,9 +32,9 @@ pub struct Screen<D> {
 impl<D: Decider> Decider for Screen<D> {
     const MARK: u8 = D::MARK;
 
-    ghost reach = { λ s p x m b. ScreenReach (D.Decider.reach s.below) p x m b };
+    ghost MARK = { D.MARK };
 
-    ghost signed = { D.Decider.signed };
+    ghost reach = { λ s p x m b. ScreenReach (D.Decider.reach s.below) p x m b };
 
     ghost within = { Prim.search rules };
 
@@ -45,7 +45,7 @@ impl<D: Decider> Decider for Screen<D> {
         sheet: &mut [Row],
         book: &mut [u8],
     ) -> Result<Verdict, DeciderFault> {
-        if sizes_fit(sheet.len(), book.len()) && is_screened_out(problem, strike) {
+        if check_sizes(sheet.len(), book.len()).is_ok() && is_screened_out(problem, strike) {
             return Ok(Verdict::Blocked);
         }
         self.below.query(problem, strike, sheet, book)

@@ -8,8 +8,9 @@ ghost use Rattle.deciders.specs.Rows.{row as row_of, entries, Sound};
 ghost use Rattle.deciders.specs.Struck.{struck_out};
 ghost use Rattle.deciders.specs.Searches.{ByAction, Away, Expands, Lists, Finds};
 
+use crate::answer::{DeciderFault, Verdict};
 use crate::index::Index;
-use crate::limits::{MAX_ROWS, sizes_fit};
+use crate::limits::{MAX_ROWS, check_sizes};
 use crate::listing::{Listing, Unsettled};
 use crate::row::Row;
 use crate::struck::StruckOut;
@@ -49,9 +50,12 @@ impl<'a> Listing<'a> {
         entry: Facts,
     ) -> Result<Option<usize>, Unsettled>
         requires here { (at < self.old.count) × ((row_of self.old.rows.now at).set ≡ entry) }
-        requires sound { Sound (ByAction D.makes struck.now.actions.items) (row_of self.old.rows.now 0).set self.old.rows.now self.old.count }
+        requires sound { Sound (ByAction D.makes struck.now.actions.items)
+            (row_of self.old.rows.now 0).set self.old.rows.now self.old.count }
         requires away { Away (D.wants struck.now) self.old.rows.now self.old.count }
-        ensures expands { Expands D.makes (D.wants struck.now) struck.now.actions.items (row_of self.old.rows.now 0).set entry (entries self.old.rows.now self.old.count) (length self.old.rows.now) self.new.rows.now self.new.count result }
+        ensures expands { Expands D.makes (D.wants struck.now) struck.now.actions.items
+            (row_of self.old.rows.now 0).set entry (entries self.old.rows.now self.old.count)
+            (length self.old.rows.now) self.new.rows.now self.new.count result }
         ensures loan { self.new.index.ghost_name ≡ self.old.index.ghost_name }
     {
         for action in struck.actions.as_slice() {
@@ -75,7 +79,9 @@ impl<'a> Listing<'a> {
     fn list<D: Direction>(&mut self, struck: &StruckOut) -> Result<Option<usize>, Unsettled>
         requires none { self.old.count ≡ 0 }
         requires some { 0 < length self.old.rows.now }
-        ensures lists { Lists D.makes (D.wants struck.now) struck.now.actions.items (D.start_of struck.now) (length self.old.rows.now) self.new.rows.now self.new.count result }
+        ensures lists { Lists D.makes (D.wants struck.now) struck.now.actions.items
+            (D.start_of struck.now) (length self.old.rows.now)
+            self.new.rows.now self.new.count result }
         ensures loan { self.new.index.ghost_name ≡ self.old.index.ghost_name }
     {
         let start = D::start(struck);
@@ -106,25 +112,30 @@ pub(crate) struct Search {
 }
 
 impl Search {
-    /// Searches for a way from the start of a direction to an entry that is wanted, with the facts of `strike` struck out.
-    /// Writes the places of the way, the last first, to the front of the book, and says how many there are.
-    pub(crate) fn find_way<D: Direction>(
+    /// Answers by a search for a way from the start of a direction to an entry that is wanted, with the facts of `strike`
+    /// struck out. Writes the places of the way, the last first, to the front of the book.
+    pub(crate) fn answer<D: Direction>(
         &mut self,
         problem: &Problem,
         strike: Facts,
+        mark: u8,
         sheet: &mut [Row],
         book: &mut [u8],
-    ) -> Result<Option<usize>, Unsettled>
-        ensures { Finds D.makes (D.wants (struck_out (task problem.now) strike)) (strike_out (task problem.now) strike).steps (D.start_of (struck_out (task problem.now) strike)) (length sheet.old) book.old book.new result }
+    ) -> Result<Verdict, DeciderFault>
+        ensures { let p = task problem.now in let q = struck_out p strike in
+            Finds D.makes (D.wants q) (strike_out p strike).steps (D.start_of q)
+            strike mark (length sheet.old) book.old book.new result }
     {
-        if !sizes_fit(sheet.len(), book.len()) {
-            return Err(Unsettled);
+        let fault = DeciderFault::BeyondReach { set: strike, mark };
+        if check_sizes(sheet.len(), book.len()).is_err() {
+            return Err(fault);
         }
         self.struck.fill(problem, strike);
         let mut listing = Listing::new(sheet, &mut self.index);
-        match listing.list::<D>(&self.struck)? {
-            Some(row) => Ok(Some(listing.climb(row, book))),
-            None => Ok(None),
+        match listing.list::<D>(&self.struck) {
+            Ok(Some(row)) => Ok(Verdict::Solvable(listing.climb(row, book) as u16)),
+            Ok(None) => Ok(Verdict::Blocked),
+            Err(Unsettled) => Err(fault),
         }
     }
 }

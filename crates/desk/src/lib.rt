@@ -2,12 +2,14 @@
 
 #![tactic(auto)]
 
-ghost use Rattle.std.specs.Prelude.{◌≡◌, ◌≤◌, take, vec_len, IfOk, IfSome};
+ghost use Rattle.std.specs.Prelude.{◌≡◌, ◌≤◌, [], length, take, vec_len, IfOk, IfSome};
+ghost use Rattle.std.specs.Io.Buffered.{writer_contents, writer_buffer};
+ghost use Rattle.casefile.specs.Desks.{ServesTextAt};
 
-use casefile::{Desk, MAX_TEXT, MIN_REPORT, ReadFault, Reading};
+use casefile::{Desk, MAX_TEXT, MIN_REPORT, ServeFault, serve_text};
 use cases::Case;
-use deciders::{Forward, MAX_PLACES, MAX_ROWS, Row, Screen};
-use pickers::CountingPicker;
+use deciders::{Decider, Forward, MAX_PLACES, MAX_ROWS, Row, Screen};
+use pickers::{CountingPicker, Picker};
 use std::alloc::Global;
 use std::io;
 use std::io::{BufWriter, Read, Write};
@@ -15,19 +17,38 @@ use std::io::{BufWriter, Read, Write};
 /// A text that fills this much is too long, however it goes on.
 const ROOM: usize = MAX_TEXT + 1;
 
-/// The bytes of the input, of which more than a text may have are not read.
+/// The bytes of the input, up to one more than a text may have.
 fn read_text<R: Read + Drop>(heap: Global, input: R) -> io::Result<Vec<u8>>
     ensures bounded { IfOk result (λ text. vec_len text ≤ 16385) }
-    ensures bytes { IfOk result (λ text. IfSome (R.remaining input) (λ bytes. text.items ≡ take 16385 bytes)) }
+    ensures bytes { IfOk result (λ text.
+        IfSome (R.remaining input) (λ bytes. text.items ≡ take 16385 bytes)) }
 {
     let mut text = Vec::new(heap);
     input.take(ROOM as u64).read_to_end(&mut text)?;
-    // whatever a reader says of itself
+    // for a reader that gives more than was taken of it
     text.truncate(ROOM);
     Ok(text)
 }
 
+/// Serves a text into a writer that gathers what it is given, and holds nothing back in the end.
+fn serve_gathered<D: Decider, P: Picker, W: Write + Drop>(
+    text: &[u8],
+    desk: &mut Desk<D, P>,
+    buffer: &mut [u8],
+    output: &mut BufWriter<W>,
+) -> Result<(), ServeFault>
+    ensures serves { ServesTextAt P.choice D.reach D.MARK text.now (length buffer.old)
+        desk.old desk.new (writer_contents W.contents output.old)
+        (writer_contents W.contents output.new) result }
+    ensures gathered { IfOk result (λ _. writer_buffer output.new ≡ []) }
+{
+    serve_text(text, desk, buffer, output)?;
+    output.flush()?;
+    Ok(())
+}
+
 /// Serves the case file on standard input: a screen over forward with 4,096 rows decides, and the counting picker picks.
+/// Fails for want of memory, or where input or output fails.
 pub fn serve_input(rt: &HostRuntime) -> anyhow::Result<()> {
     let heap = rt.alloc();
     let text = read_text(heap, rt.stdin())?;
@@ -43,19 +64,7 @@ pub fn serve_input(rt: &HostRuntime) -> anyhow::Result<()> {
         sheet: &mut sheet,
         book: &mut book,
     };
-    let mut reading = Reading::start();
     let mut output = BufWriter::new(heap, rt.stdout())?;
-    // Each line takes a byte at least, so this many turns come past the last line.
-    for _ in 0..ROOM {
-        match reading.next(&text, &mut desk, &mut buffer) {
-            Ok(Some(length)) => output.write_all(&buffer[0..length])?,
-            Err(ReadFault::TextTooLong(length)) => {
-                output.write_all(&buffer[0..length])?;
-                break;
-            }
-            Ok(None) | Err(ReadFault::BufferTooShort) => break,
-        }
-    }
-    output.flush()?;
+    serve_gathered(&text, &mut desk, &mut buffer, &mut output)?;
     Ok(())
 }

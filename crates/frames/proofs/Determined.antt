@@ -1,13 +1,13 @@
 -- A line says one thing at most.
-use Rattle.std.proofs.Common.{◌≡◌, ℕ, ◌+◌, cond, eqb, List, [], ◌∷◌, length, get_or, Ok, Err, Result, sym, refl, ap, ◌∙◌, subst}
+use Rattle.std.proofs.Common.{◌≡◌, ℕ, ◌+◌, List, [], ◌∷◌, length, get_or, Ok, Err, Result, sym, refl, ap, ◌∙◌, subst, arith}
 use Rattle.frames.specs.declared.frame.Frame.{Frame}
-use Rattle.frames.specs.declared.frame.Frame.TheVariants.{Open, Put, Grant, Lapse, Order, Cancel, Withdraw, Carry, Find, DrawAndSign}
+use Rattle.frames.specs.declared.frame.Frame.TheVariants as frames
 use Rattle.frames.specs.declared.frame.FrameFault.{FrameFault}
 use Rattle.frames.specs.declared.frame.FrameFault.TheVariants.{Malformed, UnknownKind, WrongLength}
 use Rattle.frames.specs.declared.kind.Kind.{Kind}
 use Rattle.frames.specs.declared.kind.Kind.TheVariants as kinds
 use Rattle.frames.specs.Digits.{Spells}
-use Rattle.frames.specs.Frames.{kind_of, field_bytes, bytes_of, NoneOfLength, Means, Reads}
+use Rattle.frames.specs.Frames.{frame_kind, kind_of, field_bytes, bytes_of, NoneOfLength, Means, Reads}
 use Rattle.frames.specs.Numbers.{number_of}
 use Rattle.frames.proofs.Spelling.{spells_unique}
 use Rattle.frames.proofs.Words.{number_of-word_bytes}
@@ -15,48 +15,45 @@ use Rattle.frames.proofs.Words.{number_of-word_bytes}
 word_at : List ℕ → ℕ → ℕ
 word_at s i = number_of (get_or s i 0 ∷ get_or s (i + 1) 0 ∷ get_or s (i + 2) 0 ∷ get_or s (i + 3) 0 ∷ [])
 
--- the kind that a byte stands for, where there is one
-kind_of_byte : ℕ → Kind
-kind_of_byte byte =
-    cond (eqb byte 1) kinds.Open
-    (cond (eqb byte 2) kinds.Put
-    (cond (eqb byte 3) kinds.Grant
-    (cond (eqb byte 4) kinds.Lapse
-    (cond (eqb byte 5) kinds.Order
-    (cond (eqb byte 6) kinds.Cancel
-    (cond (eqb byte 7) kinds.Withdraw
-    (cond (eqb byte 8) kinds.Carry
-    (cond (eqb byte 9) kinds.Find kinds.DrawAndSign))))))))
+-- the kinds by their bytes, which begin with 1
+kinds_in_turn : List Kind
+kinds_in_turn =
+    kinds.Open ∷ kinds.Put ∷ kinds.Grant ∷ kinds.Lapse ∷ kinds.Order ∷ kinds.Cancel ∷ kinds.Withdraw ∷ kinds.Carry ∷ kinds.Find
+    ∷ kinds.DrawAndSign ∷ []
+
+kind_at : ℕ → Kind
+kind_at byte = get_or (kinds.Open ∷ kinds_in_turn) byte kinds.Open
 
 -- the frame of a kind with these bytes, where there is one
 frame_of_kind : Kind → List ℕ → Frame
 unfolding word_at
-frame_of_kind kinds.Open s = Open (word_at s 1) (get_or s 5 0) (word_at s 6) (word_at s 10)
-frame_of_kind kinds.Put s = Put (get_or s 1 0) (word_at s 2) (word_at s 6) (word_at s 10)
-frame_of_kind kinds.Grant s = Grant (word_at s 1)
-frame_of_kind kinds.Lapse s = Lapse (word_at s 1)
-frame_of_kind kinds.Order s = Order (word_at s 1)
-frame_of_kind kinds.Cancel s = Cancel (word_at s 1)
-frame_of_kind kinds.Withdraw s = Withdraw (get_or s 1 0)
-frame_of_kind kinds.Carry s = Carry (get_or s 1 0)
-frame_of_kind kinds.Find s = Find
-frame_of_kind kinds.DrawAndSign s = DrawAndSign
+frame_of_kind kinds.Open s = frames.Open (word_at s 1) (get_or s 5 0) (word_at s 6) (word_at s 10)
+frame_of_kind kinds.Put s = frames.Put (get_or s 1 0) (word_at s 2) (word_at s 6) (word_at s 10)
+frame_of_kind kinds.Grant s = frames.Grant (word_at s 1)
+frame_of_kind kinds.Lapse s = frames.Lapse (word_at s 1)
+frame_of_kind kinds.Order s = frames.Order (word_at s 1)
+frame_of_kind kinds.Cancel s = frames.Cancel (word_at s 1)
+frame_of_kind kinds.Withdraw s = frames.Withdraw (get_or s 1 0)
+frame_of_kind kinds.Carry s = frames.Carry (get_or s 1 0)
+frame_of_kind kinds.Find s = frames.Find
+frame_of_kind kinds.DrawAndSign s = frames.DrawAndSign
 
 frame_of : List ℕ → Frame
-frame_of s = frame_of_kind (kind_of_byte (get_or s 0 0)) s
+frame_of s = frame_of_kind (kind_at (get_or s 0 0)) s
 
 frame_of_bytes : (f : Frame) → frame_of (bytes_of f) ≡ f
-unfolding frame_of frame_of_kind kind_of_byte word_at
-frame_of_bytes (Open number n standing order) = cc (number_of-word_bytes number, number_of-word_bytes standing, number_of-word_bytes order)
-frame_of_bytes (Put place needs gives takes) = cc (number_of-word_bytes needs, number_of-word_bytes gives, number_of-word_bytes takes)
-frame_of_bytes (Grant facts) = ap Grant (number_of-word_bytes facts)
-frame_of_bytes (Lapse facts) = ap Lapse (number_of-word_bytes facts)
-frame_of_bytes (Order facts) = ap Order (number_of-word_bytes facts)
-frame_of_bytes (Cancel facts) = ap Cancel (number_of-word_bytes facts)
-frame_of_bytes (Withdraw place) = refl
-frame_of_bytes (Carry place) = refl
-frame_of_bytes Find = refl
-frame_of_bytes DrawAndSign = refl
+unfolding frame_of frame_of_kind kind_at kinds_in_turn word_at
+frame_of_bytes (frames.Open number n standing order) = cc (number_of-word_bytes number, number_of-word_bytes standing, number_of-word_bytes order)
+frame_of_bytes (frames.Put place needs gives takes) = cc (number_of-word_bytes needs, number_of-word_bytes gives, number_of-word_bytes takes)
+frame_of_bytes _ = grind (arith, number_of-word_bytes)
+
+kind_of_frame : (kind : Kind) → frame_kind (frame_of_kind kind []) ≡ kind
+unfolding frame_of_kind
+kind_of_frame kinds.Open = refl
+kind_of_frame _ = refl
+
+pub frame_of_each_kind : (kind : Kind) → (f : Frame) × (frame_kind f ≡ kind)
+frame_of_each_kind kind = (frame_of_kind kind [], kind_of_frame kind)
 
 -- bytes say one thing at most
 one_meaning : (bytes : List ℕ) (r s : Result Frame FrameFault) → Means bytes r → Means bytes s → r ≡ s

@@ -1,28 +1,16 @@
 -- The length of the longest frame, and a frame of each kind.
-use Rattle.std.proofs.Common.{◌≡◌, ℕ, ◌≤◌, List, ◌∷◌, length, Some, None, Option, MatchOption, ok_or, sym, refl, ap, ◌∙◌, arith}
+use Rattle.std.proofs.Common.{◌≡◌, ℕ, ◌≤◌, List, ◌∷◌, length, Some, None, Option, MatchOption, ok_or, sym, ap, ◌∙◌, arith}
 use Rattle.frames.specs.declared.frame.Frame.{Frame}
-use Rattle.frames.specs.declared.frame.Frame.TheVariants.{Open, Put, Grant, Lapse, Order, Cancel, Withdraw, Carry, Find, DrawAndSign}
+use Rattle.frames.specs.declared.frame.Frame.TheVariants.{Open}
 use Rattle.frames.specs.declared.frame.FrameFault.TheVariants.{WrongLength}
 use Rattle.frames.specs.declared.kind.Kind.{Kind}
-use Rattle.frames.specs.declared.kind.Kind.TheVariants as kinds
-use Rattle.frames.specs.Frames.{frame_kind, bytes_of, NoneOfLength, Means}
+use Rattle.frames.specs.Frames.{bytes_of, NoneOfLength, Means}
 use Rattle.frames.specs.Kinds.{kind_byte}
+use Rattle.frames.proofs.Determined.{frame_of_each_kind}
 
 pub length_bytes : (f : Frame) → length (bytes_of f) ≤ 14
 length_bytes (Open number n standing order) = omega arith
 length_bytes _ = omega arith
-
-pub frame_of_each_kind : (kind : Kind) → (f : Frame) × (frame_kind f ≡ kind)
-frame_of_each_kind kinds.Open = (Open 0 0 0 0, refl)
-frame_of_each_kind kinds.Put = (Put 0 0 0 0, refl)
-frame_of_each_kind kinds.Grant = (Grant 0, refl)
-frame_of_each_kind kinds.Lapse = (Lapse 0, refl)
-frame_of_each_kind kinds.Order = (Order 0, refl)
-frame_of_each_kind kinds.Cancel = (Cancel 0, refl)
-frame_of_each_kind kinds.Withdraw = (Withdraw 0, refl)
-frame_of_each_kind kinds.Carry = (Carry 0, refl)
-frame_of_each_kind kinds.Find = (Find, refl)
-frame_of_each_kind kinds.DrawAndSign = (DrawAndSign, refl)
 
 -- bytes that begin with a kind say a frame of that kind, or have the wrong length
 pub means_of_kind

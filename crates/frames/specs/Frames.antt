@@ -2,7 +2,7 @@
 use Rattle.std.specs.Prelude.{◌≡◌, ℕ, ◌≢◌, List, [], ◌∷◌, ◌++◌, length, take, Ok, Err, Result}
 use Rattle.frames.specs.declared.frame.TheConstants.{ROOM}
 use Rattle.frames.specs.declared.frame.Frame.{Frame}
-use Rattle.frames.specs.declared.frame.Frame.TheVariants.{Open, Put, Grant, Lapse, Order, Cancel, Withdraw, Carry, Find, DrawAndSign}
+use Rattle.frames.specs.declared.frame.Frame.TheVariants as frames
 use Rattle.frames.specs.declared.frame.FrameFault.{FrameFault}
 use Rattle.frames.specs.declared.frame.FrameFault.TheVariants.{Malformed, UnknownKind, WrongLength}
 use Rattle.frames.specs.declared.kind.Kind.{Kind}
@@ -13,16 +13,16 @@ use Rattle.frames.specs.Numbers.{word_bytes}
 
 -- what kind of frame it is
 abbrev pub frame_kind : Frame → Kind
-frame_kind (Open number n standing order) = kinds.Open
-frame_kind (Put place needs gives takes) = kinds.Put
-frame_kind (Grant facts) = kinds.Grant
-frame_kind (Lapse facts) = kinds.Lapse
-frame_kind (Order facts) = kinds.Order
-frame_kind (Cancel facts) = kinds.Cancel
-frame_kind (Withdraw place) = kinds.Withdraw
-frame_kind (Carry place) = kinds.Carry
-frame_kind Find = kinds.Find
-frame_kind DrawAndSign = kinds.DrawAndSign
+frame_kind (frames.Open number n standing order) = kinds.Open
+frame_kind (frames.Put place needs gives takes) = kinds.Put
+frame_kind (frames.Grant facts) = kinds.Grant
+frame_kind (frames.Lapse facts) = kinds.Lapse
+frame_kind (frames.Order facts) = kinds.Order
+frame_kind (frames.Cancel facts) = kinds.Cancel
+frame_kind (frames.Withdraw place) = kinds.Withdraw
+frame_kind (frames.Carry place) = kinds.Carry
+frame_kind frames.Find = kinds.Find
+frame_kind frames.DrawAndSign = kinds.DrawAndSign
 
 -- the byte of a frame's kind
 abbrev pub kind_of : Frame → ℕ
@@ -30,16 +30,16 @@ kind_of f = kind_byte (frame_kind f)
 
 -- the bytes that follow the kind
 abbrev pub field_bytes : Frame → List ℕ
-field_bytes (Open number n standing order) = word_bytes number ++ (n ∷ (word_bytes standing ++ word_bytes order))
-field_bytes (Put place needs gives takes) = place ∷ (word_bytes needs ++ (word_bytes gives ++ word_bytes takes))
-field_bytes (Grant facts) = word_bytes facts
-field_bytes (Lapse facts) = word_bytes facts
-field_bytes (Order facts) = word_bytes facts
-field_bytes (Cancel facts) = word_bytes facts
-field_bytes (Withdraw place) = place ∷ []
-field_bytes (Carry place) = place ∷ []
-field_bytes Find = []
-field_bytes DrawAndSign = []
+field_bytes (frames.Open number n standing order) = word_bytes number ++ (n ∷ (word_bytes standing ++ word_bytes order))
+field_bytes (frames.Put place needs gives takes) = place ∷ (word_bytes needs ++ (word_bytes gives ++ word_bytes takes))
+field_bytes (frames.Grant facts) = word_bytes facts
+field_bytes (frames.Lapse facts) = word_bytes facts
+field_bytes (frames.Order facts) = word_bytes facts
+field_bytes (frames.Cancel facts) = word_bytes facts
+field_bytes (frames.Withdraw place) = place ∷ []
+field_bytes (frames.Carry place) = place ∷ []
+field_bytes frames.Find = []
+field_bytes frames.DrawAndSign = []
 
 -- the bytes of a frame
 abbrev pub bytes_of : Frame → List ℕ

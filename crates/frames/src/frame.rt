@@ -159,7 +159,8 @@ fn put(rest: &[u8]) -> Option<Frame>
 
 /// The frame of this kind with these bytes for its fields.
 fn frame_of_kind(kind: Kind, rest: &[u8]) -> Option<Frame>
-    ensures { MatchOption result (NoneOfLength (kind_byte kind) (length (kind_byte kind ∷ rest.now))) (λ f. bytes_of f ≡ kind_byte kind ∷ rest.now) }
+    ensures { let bytes = kind_byte kind ∷ rest.now in
+        MatchOption result (NoneOfLength (kind_byte kind) (length bytes)) (λ f. bytes_of f ≡ bytes) }
 {
     match kind {
         Kind::Open => open(rest),
@@ -198,7 +199,8 @@ const ROOM: usize = 15;
 
 /// The first bytes that a line spells. Each digit of the line is read, and the bytes past the room are left out.
 fn decode(line: &[u8]) -> Option<ArrayVec<u8, ROOM>>
-    ensures { MatchOption result ((bytes : List ℕ) → Spells line.now bytes → ⊥) (λ front. Decoded line.now front.items) }
+    ensures { MatchOption result ((bytes : List ℕ) → Spells line.now bytes → ⊥)
+        (λ front. Decoded line.now front.items) }
 {
     let (pairs, []) = line.as_chunks::<2>() else {
         return None;

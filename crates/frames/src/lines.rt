@@ -6,7 +6,8 @@ ghost use Rattle.frames.specs.Texts.{LineAt};
 /// The line that begins at `position`, without its line feed, and the position after it. There is none at the end of
 /// the text and past it.
 pub fn next_line(text: &[u8], position: usize) -> Option<(&[u8], usize)>
-    ensures { MatchOption result (length text.now ≤ position) (λ x. LineAt text.now position x.0.now x.1) }
+    ensures { MatchOption result (length text.now ≤ position)
+        (λ x. LineAt text.now position x.0.now x.1) }
 {
     if position >= text.len() {
         return None;

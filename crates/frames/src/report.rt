@@ -85,7 +85,8 @@ pub fn write_refused(refused: &Refused, buffer: &mut [u8]) -> Option<usize>
 /// Writes the report line of an accepted find: the set, how many facts it has, and the places of the plan, of which a
 /// line can count 65,535.
 pub fn write_found(facts: u32, size: u8, places: &[u8], buffer: &mut [u8]) -> Option<usize>
-    ensures printed { length places.now < 65536 → Printed (found_bytes facts size places.now) buffer.old buffer.new result }
+    ensures printed { length places.now < 65536
+        → Printed (found_bytes facts size places.now) buffer.old buffer.new result }
     ensures uncounted { 65536 ≤ length places.now → (result ≡ None) × (buffer.new ≡ buffer.old) }
 {
     let count = u16::try_from(places.len()).ok()?;

@@ -2,18 +2,21 @@
 
 #![tactic(auto)]
 
-use cases::{Answer, Call, run};
+use cases::{Answer, Call, Outcome, SlipData, run};
 use deciders::{Backward, Decider, DeciderFault, Forward, Screen};
 use pickers::{BranchingPicker, CountingPicker, Picker};
+use std::alloc::Global;
 use std::io;
-use waivers::FinderFault;
+use waivers::{Change, FinderFault};
 
+mod foreign;
 mod full;
 mod making;
 mod mixed;
 mod random;
 mod tally;
 
+use foreign::report_foreign;
 use full::full_list;
 use mixed::mixed_calls;
 use random::random_calls;
@@ -22,21 +25,28 @@ use tally::Tally;
 /// How many lists are made of calls that look random.
 const LISTS: u32 = 40;
 
+/// The name of a call that changes what is planned over.
+fn change_name(change: &Change) -> &'static str {
+    match change {
+        Change::Grant(_) => "grant",
+        Change::Lapse(_) => "lapse",
+        Change::Put { .. } => "put",
+        Change::Withdraw(_) => "withdraw",
+        Change::Carry(_) => "carry",
+        Change::Order(_) => "order",
+        Change::Cancel(_) => "cancel",
+    }
+}
+
 /// The call's name.
 fn name(call: &Call) -> &'static str {
     match call {
         Call::Open { .. } => "open",
-        Call::Grant(_) => "grant",
-        Call::Lapse(_) => "lapse",
-        Call::Put { .. } => "put",
-        Call::Withdraw(_) => "withdraw",
-        Call::Carry(_) => "carry",
-        Call::Order(_) => "order",
-        Call::Cancel(_) => "cancel",
+        Call::Change(change) => change_name(change),
         Call::Find { .. } => "find",
         Call::Draw => "draw",
-        Call::Sign { .. } => "sign",
-        Call::Tear { .. } => "tear",
+        Call::Sign(_) => "sign",
+        Call::Tear(_) => "tear",
     }
 }
 
@@ -60,7 +70,9 @@ fn tell(rt: &HostRuntime, name: &str, answer: &Answer) -> io::Result<()> {
             let number = refusal.number();
             println!(rt; "{name}: refused with {number}")
         }
-        Answer::Drawn(Ok((number, set))) => println!(rt; "{name}: number {number}, set {set}"),
+        Answer::Drawn(Ok(SlipData { number, set })) => println!(rt;
+            "{name}: number {number}, set {set}"
+        ),
         Answer::Found { result, .. } => match result {
             Ok((set, size, length)) => {
                 println!(rt; "{name}: set {set}, size {size}, plan of {length}")
@@ -82,6 +94,25 @@ fn refusal_number(answer: &Answer) -> u8 {
     }
 }
 
+/// Makes the calls on a fresh case, and gives their answers. A slip that is still out then is torn.
+fn answers_to<D: Decider, P: Picker>(
+    heap: Global,
+    decider: &mut D,
+    picker: &P,
+    calls: Vec<Call>,
+) -> io::Result<Vec<Answer>> {
+    let Outcome {
+        answers,
+        mut case,
+        slip,
+    } = run(heap, decider, picker, calls)?;
+    if let Some(slip) = slip {
+        let torn = case.tear(slip);
+        let Ok(()) = torn else { unreachable!() };
+    }
+    Ok(answers)
+}
+
 /// Makes the calls on a fresh case, and prints what each answers.
 fn report<D: Decider, P: Picker>(
     rt: &HostRuntime,
@@ -91,7 +122,7 @@ fn report<D: Decider, P: Picker>(
 ) -> io::Result<()> {
     let heap = rt.alloc();
     let names: Vec<&'static str> = calls.iter().map(name).collect(heap)?;
-    let (answers, _case) = run(heap, decider, picker, calls)?;
+    let answers = answers_to(heap, decider, picker, calls)?;
     for (name, answer) in names.iter().zip(answers.iter()) {
         tell(rt, name, answer)?;
     }
@@ -109,7 +140,7 @@ fn report_random<D: Decider, P: Picker>(
     for seed in 0..LISTS {
         let calls = random_calls(heap, seed)?;
         let names: Vec<&'static str> = calls.iter().map(name).collect(heap)?;
-        let (answers, _case) = run(heap, decider, picker, calls)?;
+        let answers = answers_to(heap, decider, picker, calls)?;
         for (name, answer) in names.iter().zip(answers.iter()) {
             tally.count(name, refusal_number(answer));
         }
@@ -160,5 +191,7 @@ fn main(rt: HostRuntime) -> io::Result<()> {
         "backward, the branching picker",
         &mut backward,
         &branching,
-    )
+    )?;
+    println!(rt; "a slip of another case")?;
+    report_foreign(&rt)
 }

@@ -1,24 +1,25 @@
-//! All twelve calls, with every refusal of each.
+//! All twelve calls, with every refusal of each but list full.
 //!
 //! The case has five facts. Fact 1 stands, and facts 2 and 3 are ordered. The step at place 0 needs 1 and 2, gives 3 and takes 1; the
 //! one at place 1 needs 0 and gives 2. So the set of fact 0 is the only smallest good set, and every picker's answer.
 
-use crate::making::{find, open, put, sign, tear};
+use crate::making::{change, find, open, put, sign, tear};
 use cases::Call;
 use std::alloc::{AllocError, Global};
+use waivers::Change;
 
 /// A fact that the case does not have.
 const UNKNOWN: u32 = 0b100000;
 
 /// Calls on an unopened case, and the opening.
 fn unopened(heap: Global, calls: &mut Vec<Call>) -> Result<(), AllocError> {
-    calls.push(Call::Grant(1))?;
-    calls.push(Call::Lapse(1))?;
+    calls.push(change(Change::Grant(1)))?;
+    calls.push(change(Change::Lapse(1)))?;
     calls.push(put(0, 0b00110, 0b01000, 0b00010))?;
-    calls.push(Call::Withdraw(0))?;
-    calls.push(Call::Carry(0))?;
-    calls.push(Call::Order(1))?;
-    calls.push(Call::Cancel(1))?;
+    calls.push(change(Change::Withdraw(0)))?;
+    calls.push(change(Change::Carry(0)))?;
+    calls.push(change(Change::Order(1)))?;
+    calls.push(change(Change::Cancel(1)))?;
     calls.push(find(heap, 0, 0)?)?;
     calls.push(Call::Draw)?;
     calls.push(sign(0, 0))?;
@@ -34,21 +35,21 @@ fn unopened(heap: Global, calls: &mut Vec<Call>) -> Result<(), AllocError> {
 
 /// The two steps are put, and what names no fact or no place of the case is refused.
 fn steps(calls: &mut Vec<Call>) -> Result<(), AllocError> {
-    calls.push(Call::Grant(UNKNOWN))?;
-    calls.push(Call::Lapse(UNKNOWN))?;
-    calls.push(Call::Order(UNKNOWN))?;
-    calls.push(Call::Cancel(UNKNOWN))?;
+    calls.push(change(Change::Grant(UNKNOWN)))?;
+    calls.push(change(Change::Lapse(UNKNOWN)))?;
+    calls.push(change(Change::Order(UNKNOWN)))?;
+    calls.push(change(Change::Cancel(UNKNOWN)))?;
     calls.push(put(64, UNKNOWN, 0b00010, 0b00010))?;
     calls.push(put(64, 0, 0b00010, 0b00010))?;
     calls.push(put(64, 0, 0b00010, 0))?;
     calls.push(put(0, 0b00110, 0b01000, 0b00010))?;
     calls.push(put(0, 0b00001, 0b00100, 0))?;
     calls.push(put(1, 0b00001, 0b00100, 0))?;
-    calls.push(Call::Withdraw(64))?;
-    calls.push(Call::Withdraw(2))?;
-    calls.push(Call::Carry(64))?;
-    calls.push(Call::Carry(2))?;
-    calls.push(Call::Carry(0))?;
+    calls.push(change(Change::Withdraw(64)))?;
+    calls.push(change(Change::Withdraw(2)))?;
+    calls.push(change(Change::Carry(64)))?;
+    calls.push(change(Change::Carry(2)))?;
+    calls.push(change(Change::Carry(0)))?;
     Ok(())
 }
 
@@ -72,13 +73,13 @@ fn torn(heap: Global, calls: &mut Vec<Call>) -> Result<(), AllocError> {
     calls.push(Call::Draw)?;
     calls.push(Call::Draw)?;
     calls.push(open(8, 0, 0, 0))?;
-    calls.push(Call::Grant(UNKNOWN))?;
-    calls.push(Call::Lapse(0))?;
+    calls.push(change(Change::Grant(UNKNOWN)))?;
+    calls.push(change(Change::Lapse(0)))?;
     calls.push(put(64, 0, 0, 0))?;
-    calls.push(Call::Withdraw(1))?;
-    calls.push(Call::Carry(64))?;
-    calls.push(Call::Order(0))?;
-    calls.push(Call::Cancel(0))?;
+    calls.push(change(Change::Withdraw(1)))?;
+    calls.push(change(Change::Carry(64)))?;
+    calls.push(change(Change::Order(0)))?;
+    calls.push(change(Change::Cancel(0)))?;
     calls.push(find(heap, 0, 0)?)?;
     calls.push(sign(8, 0b00001))?;
     calls.push(sign(7, 0b00100))?;
@@ -94,15 +95,15 @@ fn torn(heap: Global, calls: &mut Vec<Call>) -> Result<(), AllocError> {
 fn signed(heap: Global, calls: &mut Vec<Call>) -> Result<(), AllocError> {
     calls.push(Call::Draw)?;
     calls.push(tear(7, 0b00001))?;
-    calls.push(Call::Lapse(0))?;
+    calls.push(change(Change::Lapse(0)))?;
     calls.push(Call::Draw)?;
     calls.push(find(heap, 16, 16)?)?;
     calls.push(Call::Draw)?;
     calls.push(sign(7, 0b00001))?;
     calls.push(sign(7, 0b00001))?;
     calls.push(Call::Draw)?;
-    calls.push(Call::Order(0b00001))?;
-    calls.push(Call::Order(UNKNOWN | 0b00001))?;
+    calls.push(change(Change::Order(0b00001)))?;
+    calls.push(change(Change::Order(UNKNOWN | 0b00001)))?;
     calls.push(find(heap, 16, 16)?)?;
     calls.push(Call::Draw)?;
     Ok(())
@@ -110,30 +111,30 @@ fn signed(heap: Global, calls: &mut Vec<Call>) -> Result<(), AllocError> {
 
 /// Both steps are done, and then more is ordered than any step gives.
 fn carried(heap: Global, calls: &mut Vec<Call>) -> Result<(), AllocError> {
-    calls.push(Call::Carry(1))?;
-    calls.push(Call::Carry(0))?;
-    calls.push(Call::Carry(0))?;
+    calls.push(change(Change::Carry(1)))?;
+    calls.push(change(Change::Carry(0)))?;
+    calls.push(change(Change::Carry(0)))?;
     calls.push(find(heap, 16, 16)?)?;
-    calls.push(Call::Order(0b10000))?;
+    calls.push(change(Change::Order(0b10000)))?;
     calls.push(find(heap, 16, 16)?)?;
     calls.push(Call::Draw)?;
     calls.push(find(heap, 16, 16)?)?;
-    calls.push(Call::Cancel(0b10000))?;
+    calls.push(change(Change::Cancel(0b10000)))?;
     calls.push(find(heap, 16, 16)?)?;
     Ok(())
 }
 
 /// What was done lapses, is granted again, and the steps are withdrawn.
 fn withdrawn(heap: Global, calls: &mut Vec<Call>) -> Result<(), AllocError> {
-    calls.push(Call::Lapse(0b01000))?;
+    calls.push(change(Change::Lapse(0b01000)))?;
     calls.push(find(heap, 16, 16)?)?;
-    calls.push(Call::Grant(0b00010))?;
+    calls.push(change(Change::Grant(0b00010)))?;
     calls.push(find(heap, 16, 16)?)?;
-    calls.push(Call::Withdraw(1))?;
-    calls.push(Call::Withdraw(1))?;
-    calls.push(Call::Withdraw(0))?;
+    calls.push(change(Change::Withdraw(1)))?;
+    calls.push(change(Change::Withdraw(1)))?;
+    calls.push(change(Change::Withdraw(0)))?;
     calls.push(find(heap, 16, 16)?)?;
-    calls.push(Call::Cancel(0b01000))?;
+    calls.push(change(Change::Cancel(0b01000)))?;
     calls.push(find(heap, 16, 16)?)?;
     Ok(())
 }

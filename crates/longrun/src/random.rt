@@ -1,10 +1,11 @@
 //! Calls that look random, on a case of five facts. Fact 4 is ordered, and some steps give it.
 
-use crate::making::{find, open, put, sign, tear};
+use crate::making::{change, find, open, put, sign, tear};
 use cases::Call;
 use draws::Generator;
 use rules::{Facts, difference};
 use std::alloc::{AllocError, Global};
+use waivers::Change;
 
 /// How many turns a list has; each is one call, or a slip that is drawn and decided.
 const TURNS: u32 = 150;
@@ -63,7 +64,7 @@ fn some_find(heap: Global, numbers: &mut Numbers) -> Result<Call, AllocError> {
 fn slip(heap: Global, numbers: &mut Numbers, calls: &mut Vec<Call>) -> Result<(), AllocError> {
     calls.push(find(heap, 32, 32)?)?;
     calls.push(Call::Draw)?;
-    calls.push(Call::Grant(numbers.few()))?;
+    calls.push(change(Change::Grant(numbers.few())))?;
     if numbers.some() < 32 {
         calls.push(sign(NUMBER, numbers.few()))?;
     }
@@ -76,13 +77,13 @@ fn slip(heap: Global, numbers: &mut Numbers, calls: &mut Vec<Call>) -> Result<()
 /// One turn.
 fn turn(heap: Global, numbers: &mut Numbers, calls: &mut Vec<Call>) -> Result<(), AllocError> {
     let call = match numbers.some() % 16 {
-        0 => Call::Grant(numbers.few()),
-        1..=3 => Call::Lapse(numbers.some() % 32),
+        0 => change(Change::Grant(numbers.few())),
+        1..=3 => change(Change::Lapse(numbers.some() % 32)),
         4..=6 => some_put(numbers),
-        7 => Call::Withdraw(numbers.place()),
-        8 => Call::Carry(numbers.place()),
-        9 => Call::Order(ORDERED | numbers.few() & numbers.some()),
-        10 => Call::Cancel(numbers.few()),
+        7 => change(Change::Withdraw(numbers.place())),
+        8 => change(Change::Carry(numbers.place())),
+        9 => change(Change::Order(ORDERED | numbers.few() & numbers.some())),
+        10 => change(Change::Cancel(numbers.few())),
         11 | 12 => return slip(heap, numbers, calls),
         _ => some_find(heap, numbers)?,
     };

@@ -2,7 +2,7 @@
 use Rattle.std.proofs.Common.{◌≡◌, ℕ, zero, suc, ◌+◌, ◌<◌, ◌≤◌, Bool, true, false, T, List, [], ◌∷◌, length, get_or, take, Some, None, Option, sym, refl, ap, ◌∙◌, subst, inl, inr, arith}
 use native.Mathlib.Decide.{dec_lt}
 use Rattle.std.proofs.lemmas.List.{take_all}
-use Rattle.rules.specs.declared.step.Step.{Step}
+use Rattle.rules.specs.Steps.{Step}
 use Rattle.rules.specs.declared.check.PlanCheck.TheVariants.{IsPlan, StopsAt, Missing}
 use Rattle.rules.specs.Sets.{bit, ◌⊆◌, ◌∖◌, inside}
 use Rattle.rules.specs.Planning.{Task, held, done, step_without, place_without, gone, strike, Plan, Walk}

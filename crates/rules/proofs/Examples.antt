@@ -1,7 +1,7 @@
 -- Worked examples, by computing: plans that are run, and listings that are written out.
 use Rattle.std.proofs.Common.{◌≡◌, ℕ, zero, suc, ◌<◌, ◌≤◌, Bool, true, false, not, ◌&&◌, T, leb, List, [], ◌∷◌, length, get_or, Some, None, Option, refl, arith, leb→le, T_not}
 use lib.Count.{ones}
-use Rattle.rules.specs.declared.step.Step.{Step}
+use Rattle.rules.specs.Steps.{Step}
 use Rattle.rules.specs.Sets.{bit, ◌⊆◌, ◌∖◌, Meets, single, size, inside}
 use Rattle.rules.specs.Planning.{Task, held, done, Leads, Plan, strike, Blocked}
 use Rattle.rules.specs.Waivers.{waivable, Group, Hits, Smallest}

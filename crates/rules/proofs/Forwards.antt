@@ -1,7 +1,7 @@
 -- The forward listing, and why it is decided whether there is a plan.
 use Rattle.std.proofs.Common.{◌≡◌, ℕ, zero, suc, ◌+◌, ◌^◌, ◌<◌, ◌≤◌, Bool, true, false, cond, T, ◌⊎◌, List, [], ◌∷◌, length, get_or, Some, None, Option, sym, refl, ap, subst, inl, inr, arith, pow_mono}
 use lib.Bits.{or_lt}
-use Rattle.rules.specs.declared.step.Step.{Step}
+use Rattle.rules.specs.Steps.{Step}
 use Rattle.rules.specs.Sets.{◌⊆◌, ◌∖◌, inside}
 use Rattle.rules.specs.Planning.{Task, held, done, Plan, Walk, strike}
 use Rattle.rules.specs.Listing.{Whole, Path, forward, standings}

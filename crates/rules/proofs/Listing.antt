@@ -3,7 +3,7 @@ use Rattle.std.proofs.Common.{◌≡◌, ℕ, zero, suc, ◌+◌, ◌-◌, ◌<�
 use native.Mathlib.Decide.{dec_lt}
 use lib.ListN.{get_or-append}
 use lib.Dec.{eqb_refl}
-use Rattle.rules.specs.declared.step.Step.{Step}
+use Rattle.rules.specs.Steps.{Step}
 use Rattle.rules.specs.Listing.{Successor, listed, adding, adding_made, expanded, listing, Whole, Path}
 use Rattle.rules.specs.Theorems.{ListedReached, ReachedListed, ListingStays, FirstEntries, NoRepeats}
 

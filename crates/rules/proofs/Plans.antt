@@ -1,9 +1,10 @@
 -- Plans: one simulation gives all that never blocks.
 use Rattle.std.proofs.Common.{◌≡◌, ℕ, zero, suc, List, [], ◌∷◌, get_or, set, Some, None, Option, sym, refl, ap, ◌∙◌, subst, arith}
 use lib.ListN.{get_or-map}
-use Rattle.rules.specs.declared.step.Step.{Step}
+use Rattle.rules.specs.Steps.{Step}
 use Rattle.rules.specs.Sets.{bit, ◌⊆◌, ◌∪◌}
-use Rattle.rules.specs.Planning.{Task, held, done, Leads, Plan, Walk, step_without, place_without, gone, strike, standing_at, ordering, holding}
+use Rattle.rules.specs.Planning.{Task, held, done, Leads, Plan, Walk, step_without, place_without, gone, strike}
+use Rattle.rules.specs.Setters.{with_standing, with_order, with_steps}
 use Rattle.rules.specs.Theorems.{StrikingMore, OrderingLess, StandingMore, AdditionalStep, Emptying, Doing, PlansWalk}
 use Rattle.rules.proofs.Sets.{bits}
 
@@ -48,11 +49,11 @@ striking_more p x y l k =
 
 pub ordering_less : OrderingLess
 ordering_less p o o' x l k =
-    easier (ordering p o') x (ordering p o) x (record { struck = λ f. omega arith; order = k; steps = λ i t e. e }) (λ f. omega arith) l
+    easier (with_order p o') x (with_order p o) x (record { struck = λ f. omega arith; order = k; steps = λ i t e. e }) (λ f. omega arith) l
 
 pub standing_more : StandingMore
 standing_more p s s' x l k =
-    easier (standing_at p s) x (standing_at p s') x (record { struck = λ f. omega arith; order = λ f. omega arith; steps = λ i t e. e }) k l
+    easier (with_standing p s) x (with_standing p s') x (record { struck = λ f. omega arith; order = λ f. omega arith; steps = λ i t e. e }) k l
 
 pub emptied : (ts : List (Option Step)) (i j : ℕ) (t : Step) → get_or (set ts i None) j None ≡ Some t → get_or ts j None ≡ Some t
 emptied [] i j t e = e
@@ -63,7 +64,7 @@ emptied (a ∷ ts) (suc i) (suc j) t e = emptied ts i j t e
 
 pub emptying : Emptying
 emptying p i x l =
-    easier (holding p (set p.steps i None)) x p x
+    easier (with_steps p (set p.steps i None)) x p x
     (record { struck = λ f. omega arith; order = λ f. omega arith; steps = emptied p.steps i }) (λ f. omega arith) l
 
 filled : (ts : List (Option Step)) (i : ℕ) (u : Step) → get_or ts i None ≡ None
@@ -76,13 +77,13 @@ filled (a ∷ ts) (suc i) u free (suc j) t e = filled ts i u free j t e
 
 pub additional_step : AdditionalStep
 additional_step p i t x l free =
-    easier p x (holding p (set p.steps i (Some t))) x
+    easier p x (with_steps p (set p.steps i (Some t))) x
     (record { struck = λ f. omega arith; order = λ f. omega arith; steps = filled p.steps i t free }) (λ f. omega arith) l
 
 pub doing : Doing
 doing p i t x is can stuck (l, on) =
     let g : ℕ = gone p x in
-    let q : Task = standing_at p (done t p.standing) in
+    let q : Task = with_standing p (done t p.standing) in
     let u : Step = step_without g t in
     stuck (
       i ∷ l,

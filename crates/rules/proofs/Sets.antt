@@ -207,6 +207,12 @@ pub →apart : (a b : ℕ) → a ∩ b ≡ 0 → Meets a b → ⊥
 pub apart_and : (a b : ℕ) → (Meets a b → ⊥) → a ∩ b ≡ 0
 apart_and a b h = elim (eq-zero-or-pos (a ∩ b)) [ inl e ↦ e | inr p ↦ absurd (h (pos→meets a b p)) ]
 
+-- parts of sets that lie apart lie apart
+pub apart_without : (a b g : ℕ) → a ∩ b ≡ 0 → (a ∖ g) ∩ (b ∖ g) ≡ 0
+apart_without a b g e =
+    let apart = apart→ a b (→apart a b e) in
+    apart_and (a ∖ g) (b ∖ g) (λ (f, x, y). omega (arith, bits, apart f, x, y))
+
 pub size_single : (f : ℕ) → size (single f) ≡ 1
 unfolding ones
 size_single zero = refl

@@ -1,6 +1,6 @@
 -- The step places of a table: what holds of each step in them.
 use Rattle.std.proofs.Common.{◌≡◌, ℕ, zero, suc, List, get_or, replicate, Some, None, Option, arith}
-use Rattle.rules.specs.declared.step.Step.{Step}
+use Rattle.rules.specs.Steps.{Step}
 
 -- P holds of each step in the places
 abbrev pub EachStep : (Step → Type 0) → List (Option Step) → Type 0

@@ -1,21 +1,22 @@
 -- Worked examples: a small task C, written out, and what holds of it.
 use Rattle.std.specs.Prelude.{ℕ, [], ◌∷◌, replicate, Some, None, Option}
-use Rattle.rules.specs.declared.step.Step.{Step}
+use Rattle.rules.specs.Steps.{Step}
 use Rattle.rules.specs.Planning.{Task, Plan, strike, Blocked}
 use Rattle.rules.specs.Waivers.{Good, Group, Smallest, Hits}
 
 -- a place with a step
-abbrev pub step_of : ℕ → ℕ → ℕ → Option Step
-step_of needs gives takes = Some (record { needs = needs; gives = gives; takes = takes })
+abbrev pub place_with : ℕ → ℕ → ℕ → Option Step
+place_with needs gives takes = Some (record { needs = needs; gives = gives; takes = takes })
 
--- Four facts; fact 1 stands and fact 3 is ordered. Step 0 needs 1 and 2, gives 3 and takes 1; step 1 needs 0 and gives 2.
+-- Four facts; fact 1 stands and fact 3 is ordered. Step 0 needs 1 and 2, gives 3 and takes 1; step
+-- 1 needs 0 and gives 2.
 abbrev pub C : Task
 C = record {
   n = 4;
   standing = 0b0010;
   order = 0b1000;
   waived = 0;
-  steps = step_of 0b0110 0b1000 0b0010 ∷ step_of 0b0001 0b0100 0 ∷ replicate 62 None;
+  steps = place_with 0b0110 0b1000 0b0010 ∷ place_with 0b0001 0b0100 0 ∷ replicate 62 None;
 }
 
 -- One fact, ordered and not standing, and no steps.

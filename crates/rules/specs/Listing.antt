@@ -1,6 +1,7 @@
--- Listings: from a first entry on, each entry in turn adds what the steps make of it. Forward, an entry is a standing.
+-- Listings: from a first entry on, each entry in turn adds what the steps make of it. Forward, an
+-- entry is a standing.
 use Rattle.std.specs.Prelude.{◌≡◌, ℕ, zero, suc, ◌<◌, ◌≤◌, Bool, false, cond, ◌||◌, ◌⊎◌, List, [], ◌∷◌, ◌++◌, length, Some, None, Option, ◌==◌, nat_lt, slice_index, slice_index_or}
-use Rattle.rules.specs.declared.step.Step.{Step}
+use Rattle.rules.specs.Steps.{Step}
 use Rattle.rules.specs.Sets.{inside}
 use Rattle.rules.specs.Planning.{Task, done}
 
@@ -31,22 +32,28 @@ expanded f (Some t ∷ ts) s l = expanded f ts s (adding_made (f t s) l)
 -- the listing once its first k entries, or all where it has no more, have been expanded
 abbrev pub listing : Successor → List (Option Step) → ℕ → ℕ → List ℕ
 listing f ts start zero = start ∷ []
-listing f ts start (suc k) = let l = listing f ts start k in cond (nat_lt k (length l)) (expanded f ts (slice_index l k) l) l
+listing f ts start (suc k) =
+    let l = listing f ts start k in
+    cond (nat_lt k (length l)) (expanded f ts (slice_index l k) l) l
 
 -- the whole listing has at most m entries
 abbrev pub Whole : Successor → List (Option Step) → ℕ → ℕ → Type 0
 Whole f ts start m = length (listing f ts start m) ≤ m
 
--- m rows settle it: the whole listing has at most m entries, or an entry that is wanted is among the first m
+-- m rows settle it: the whole listing has at most m entries, or an entry that is wanted is among
+-- the first m
 abbrev pub Settles : Successor → List (Option Step) → ℕ → (ℕ → Type 0) → ℕ → Type 0
 Settles f ts start Wanted m =
     Whole f ts start m
-    ⊎ ((i : ℕ) × (i < m) × (i < length (listing f ts start m)) × Wanted (slice_index (listing f ts start m) i))
+    ⊎ ((i : ℕ) × (i < m) × (i < length (listing f ts start m))
+    × Wanted (slice_index (listing f ts start m) i))
 
 -- the steps at the places l, one after another, make the entry e of the entry s
 abbrev pub Path : Successor → List (Option Step) → ℕ → List ℕ → ℕ → Type 0
 Path f ts s [] e = s ≡ e
-Path f ts s (i ∷ l) e = (t : Step) × (slice_index_or ts i None ≡ Some t) × (r : ℕ) × (f t s ≡ Some r) × Path f ts r l e
+Path f ts s (i ∷ l) e =
+    (t : Step) × (slice_index_or ts i None ≡ Some t)
+    × (r : ℕ) × (f t s ≡ Some r) × Path f ts r l e
 
 -- forward: the result of a step that can be done
 abbrev pub forward : Successor

@@ -1,10 +1,11 @@
 -- Planning: tasks, doing a step, plans, and striking facts out.
 use Rattle.std.specs.Prelude.{◌≡◌, ℕ, List, [], ◌∷◌, map, Some, None, Option, slice_index_or}
-use Rattle.rules.specs.declared.step.Step.{Step}
+use Rattle.rules.specs.Steps.{Step, IsClear}
 use Rattle.rules.specs.declared.problem.Problem.{Problem}
-use Rattle.rules.specs.Sets.{◌⊆◌, ◌∪◌, ◌∖◌, Meets}
+use Rattle.rules.specs.Sets.{◌⊆◌, ◌∪◌, ◌∖◌}
 
--- What a case is planned over: the number of facts, the facts that stand, those ordered, those waived, and the steps by their places.
+-- What a case is planned over: the number of facts, the facts that stand, those ordered, those
+-- waived, and the steps by their places.
 pub record Task : Type 0 where
   pub n : ℕ
   pub standing : ℕ
@@ -14,7 +15,13 @@ pub record Task : Type 0 where
 
 -- the task that the program's problem holds
 abbrev pub task : Problem → Task
-task p = record { n = p.n; standing = p.standing.facts; order = p.order; waived = p.waived; steps = p.table.places }
+task p = record {
+  n = p.n;
+  standing = p.standing.facts;
+  order = p.order;
+  waived = p.waived;
+  steps = p.table.places;
+}
 
 -- what the place i holds: a step, or nothing
 abbrev pub held : Task → ℕ → Option Step
@@ -36,7 +43,8 @@ Plan p l = Leads p p.standing l
 -- doing the steps that ts holds at the places l, one after another, takes the standing s to e
 abbrev pub Walk : List (Option Step) → ℕ → List ℕ → ℕ → Type 0
 Walk ts s [] e = s ≡ e
-Walk ts s (i ∷ l) e = (t : Step) × (slice_index_or ts i None ≡ Some t) × (t.needs ⊆ s) × Walk ts (done t s) l e
+Walk ts s (i ∷ l) e =
+    (t : Step) × (slice_index_or ts i None ≡ Some t) × (t.needs ⊆ s) × Walk ts (done t s) l e
 
 -- the step t without the facts of g
 abbrev pub step_without : ℕ → Step → Step
@@ -71,16 +79,4 @@ Blocked p x = Solvable p x → ⊥
 
 -- no step of the task gives a fact that it takes
 abbrev pub Consistent : Task → Type 0
-Consistent p = (i : ℕ) (t : Step) → held p i ≡ Some t → Meets t.gives t.takes → ⊥
-
--- the task with another standing
-abbrev pub standing_at : Task → ℕ → Task
-standing_at p s = record { n = p.n; standing = s; order = p.order; waived = p.waived; steps = p.steps }
-
--- the task with another order
-abbrev pub ordering : Task → ℕ → Task
-ordering p o = record { n = p.n; standing = p.standing; order = o; waived = p.waived; steps = p.steps }
-
--- the task with other steps
-abbrev pub holding : Task → List (Option Step) → Task
-holding p ts = record { n = p.n; standing = p.standing; order = p.order; waived = p.waived; steps = ts }
+Consistent p = (i : ℕ) (t : Step) → held p i ≡ Some t → IsClear t

@@ -28,6 +28,11 @@ layer_byte Case = 2
 layer_byte Finder = 3
 layer_byte Decider = 4
 
+-- the first refusal of two checks, or what the second one gives
+abbrev pub first_refusal : {A E : Type 0} → Result Unit E → Result A E → Result A E
+first_refusal (Ok u) r = r
+first_refusal (Err e) r = Err e
+
 -- what a call leaves: a refused one leaves all as it was
 abbrev pub after : {X E : Type 0} → Result Unit E → (X → X) → X → X
 after (Ok u) f k = f k

@@ -69,7 +69,8 @@ SetsMean =
     × ((a b : ℕ) → T (inside a b) ↔ (a ⊆ b))
     × ((a b : ℕ) → (a ∩ b ≡ 0) ↔ (Meets a b → ⊥))
 
--- Counting facts: the empty set has none, a single fact counts 1, and sets that share no fact count apart.
+-- Counting facts: the empty set has none, a single fact counts 1, and sets that share no fact count
+-- apart.
 abbrev pub SizesMean : Type 0
 SizesMean =
     (size 0 ≡ 0)

@@ -26,6 +26,18 @@ struct StandingGuard<'a> {
     saved: Standing,
 }
 
+impl<'a> StandingGuard<'a> {
+    /// Lends this standing, as it is now.
+    fn hold(standing: &'a mut Standing) -> StandingGuard<'a>
+        ensures loan { result.standing.ghost_name ≡ standing.entry.ghost_name }
+        ensures lent { result.standing.now ≡ standing.old }
+        ensures saved { result.saved ≡ standing.old }
+    {
+        let saved = *standing;
+        StandingGuard { standing, saved }
+    }
+}
+
 impl Drop for StandingGuard<'_> {
     fn drop(self)
         ensures { self.exit.0.now ≡ self.entry.saved }
@@ -40,7 +52,8 @@ impl Drop for StandingGuard<'_> {
 
 /// The standing after the step at a place, with the facts of `gone` struck out; none where it can't be done.
 fn do_step(table: &StepTable, place: u8, gone: Facts, standing: Standing) -> Option<Standing>
-    ensures { MatchOption result (Undoable (place_without gone (slice_index_or table.now.places place None)) standing.facts) (λ s. Does (place_without gone (slice_index_or table.now.places place None)) standing.facts s.facts) }
+    ensures { let o = place_without gone (slice_index_or table.now.places place None) in
+        MatchOption result (Undoable o standing.facts) (λ s. Does o standing.facts s.facts) }
 {
     let step = table.get(place)?.without(gone);
     if !step.can_be_done(standing.facts) {
@@ -60,12 +73,8 @@ impl Problem {
         let gone = strike | self.waived;
         let order = difference(self.order, gone);
         let table = &self.table;
-        let saved = self.standing;
-        let walk = StandingGuard {
-            standing: &mut self.standing,
-            saved,
-        };
-        walk.standing.facts = difference(saved.facts, gone);
+        let walk = StandingGuard::hold(&mut self.standing);
+        walk.standing.facts = difference(walk.saved.facts, gone);
         for (i, place) in places.iter().enumerate() {
             let Some(next) = do_step(table, *place, gone, *walk.standing) else {
                 return PlanCheck::StopsAt(i);

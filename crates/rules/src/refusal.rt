@@ -24,13 +24,13 @@ pub enum Refusal {
     PlaceTaken,
     /// The place holds no step.
     PlaceEmpty,
-    /// A need of the step to be done does not stand.
+    /// A need of the step, outside the waived facts, does not stand.
     NeedMissing,
     /// The order names a waived fact.
     WaivedFact,
     /// There is no finding to draw, or an empty one.
     NoFinding,
-    /// No slip is out, or this is not the one drawn.
+    /// No slip is out, or the slip says another number or set than the one that is out.
     WrongSlip,
 }
 

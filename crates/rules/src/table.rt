@@ -1,7 +1,7 @@
 //! The 64 step places of a case.
 
-ghost use Rattle.std.specs.Prelude.{◌≡◌, ℕ, length, Some, None, bit_and, slice_index_or};
-ghost use Rattle.rules.specs.declared.step.Step.{Step as TheStep};
+ghost use Rattle.std.specs.Prelude.{◌≡◌, ℕ, length, Some, None, slice_index_or};
+ghost use Rattle.rules.specs.Steps.{Step as TheStep, IsClear};
 
 use crate::step::Step;
 
@@ -15,5 +15,5 @@ pub const PLACES: u8 = 64;
 pub struct StepTable {
     places: [Option<Step>; 64],
     ghost count: { length places ≡ 64 },
-    ghost consistent: { (i : ℕ) (t : TheStep) → slice_index_or places i None ≡ Some t → bit_and t.gives t.takes ≡ 0 },
+    ghost consistent: { (i : ℕ) (t : TheStep) → slice_index_or places i None ≡ Some t → IsClear t },
 }

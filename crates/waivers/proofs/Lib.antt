@@ -1,4 +1,5 @@
 pub mod Keep
+pub mod Names
 pub mod Losing
 pub mod Largest
 pub mod Noted

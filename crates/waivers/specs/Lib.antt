@@ -1,7 +1,9 @@
 -- A problem with its known groups, and what the search for a smallest good set says.
 pub mod Faults
 pub mod Known
+pub mod Changes
 pub mod Growing
 pub mod Noting
 pub mod Searching
+pub mod Wiping
 pub mod Examples

@@ -1,10 +1,10 @@
 //! Why find ends without a set.
 
 ghost use Rattle.std.specs.Prelude.{◌≡◌};
-ghost use Rattle.waivers.specs.declared.fault.FinderFault.TheVariants.{Case as OfCase, Decider as OfDecider};
+ghost use Rattle.waivers.specs.declared.fault.FinderFault.TheVariants.{Case as OfCase, Size as OfSize, Decider as OfDecider};
 ghost use Rattle.waivers.specs.Faults.{number as number_of, layer as layer_of};
 
-use deciders::DeciderFault;
+use deciders::{DeciderFault, SizeFault};
 use rules::{Facts, Layer, Refusal};
 
 /// Why find ends without a set. A fault of a layer below is kept whole.
@@ -12,10 +12,8 @@ use rules::{Facts, Layer, Refusal};
 pub enum FinderFault {
     /// The case refuses the call.
     Case(Refusal),
-    /// The working sheet has no row, or more than 4,096.
-    SheetSize,
-    /// The plan book is shorter than the sheet, or has more than 4,096 places.
-    BookSize,
+    /// The working sheet or the plan book has no size to work with.
+    Size(SizeFault),
     /// No good set exists: nothing is picked.
     NoWaiver,
     /// The decider has no answer.
@@ -32,8 +30,7 @@ impl FinderFault {
         // Kept: a variant that holds a value has no discriminant to cast.
         match self {
             FinderFault::Case(refusal) => refusal.number(),
-            FinderFault::SheetSize => 16,
-            FinderFault::BookSize => 17,
+            FinderFault::Size(fault) => fault.number(),
             FinderFault::NoWaiver => 20,
             FinderFault::Decider(fault) => fault.number(),
             FinderFault::ListFull(_) => 22,
@@ -46,6 +43,7 @@ impl FinderFault {
     {
         match self {
             FinderFault::Case(_) => Layer::Case,
+            FinderFault::Size(fault) => fault.layer(),
             FinderFault::Decider(fault) => fault.layer(),
             _ => Layer::Finder,
         }
@@ -66,5 +64,13 @@ impl From<Refusal> for FinderFault {
 
     fn from(refusal: Refusal) -> FinderFault {
         FinderFault::Case(refusal)
+    }
+}
+
+impl From<SizeFault> for FinderFault {
+    ghost from_gives = { λ e r. r ≡ OfSize e };
+
+    fn from(fault: SizeFault) -> FinderFault {
+        FinderFault::Size(fault)
     }
 }

@@ -2,11 +2,14 @@
 
 #![tactic(auto)]
 
+mod change;
 mod examples;
 mod fault;
 mod known;
 mod lose;
+mod wipe;
 
+pub use change::Change;
 pub use examples::all_worked_examples_hold;
 pub use fault::FinderFault;
 pub use known::{Found, KnownGroups, MAX_GROUPS};

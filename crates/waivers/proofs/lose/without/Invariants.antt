@@ -1,5 +1,5 @@
 use Rattle.std.proofs.Common.{◌≡◌, take}
-use Rattle.waivers.specs.Known.{losing}
+use Rattle.waivers.specs.Changes.{losing}
 use Rattle.waivers.proofs.lose.without.Given as goal
 
 abbrev pub invariant-loop-group : goal.invariant-loop-group

@@ -14,20 +14,20 @@ pub returns-in_err-row-clause-lists : goal.returns-in_err-row-clause-lists
 returns-in_err-row-clause-lists g c =
     let p = err_from_is_err_and c.from_residual-in_err-row.result c.from_residual-in_err-row.ensures.1 in
     let t = c.expand.new.self in
-    let e = c.in-Some.ensures.filled in
-    rw p.1 (turn_full c.loop-at.invariant.turn e.0 c.in-Some.entry e.1 t.rows.now t.count p.0 c.in_err-row.ensures.expands)
+    let e = c.in-Some.ensures in
+    rw p.1 (turn_full c.loop-at.invariant.turn e.within c.in-Some.entry e.filled t.rows.now t.count p.0 c.in_err-row.ensures.expands)
 
 pub returns-in-Some-2-clause-lists : goal.returns-in-Some-2-clause-lists
 returns-in-Some-2-clause-lists g c =
     let t = c.expand.new.self in
-    let e = c.in-Some.ensures.filled in
-    turn_goal c.loop-at.invariant.turn e.0 c.in-Some.entry e.1 t.rows.now t.count c.in-Some-2.row (rw c.in-Some-2.is at c.in_ok-row.ensures.expands)
+    let e = c.in-Some.ensures in
+    turn_goal c.loop-at.invariant.turn e.within c.in-Some.entry e.filled t.rows.now t.count c.in-Some-2.row (rw c.in-Some-2.is at c.in_ok-row.ensures.expands)
 
 pub loop-at-preserved : goal.loop-at-preserved
 loop-at-preserved g c =
     let t = c.expand.new.self in
-    let e = c.in-Some.ensures.filled in
+    let e = c.in-Some.ensures in
     record {
-      turn = turn_more c.loop-at.invariant.turn e.0 c.in-Some.entry e.1 t.rows.now t.count (rw c.in_default-2.is at c.in_ok-row.ensures.expands);
+      turn = turn_more c.loop-at.invariant.turn e.within c.in-Some.entry e.filled t.rows.now t.count (rw c.in_default-2.is at c.in_ok-row.ensures.expands);
       loan = c.expand.ensures.loan ∙ c.loop-at.invariant.loan;
     }

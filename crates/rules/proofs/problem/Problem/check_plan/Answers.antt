@@ -4,33 +4,40 @@ use Rattle.rules.proofs.Checks.{checks_once, stops_at, goes_on, ends_well, ends_
 use Rattle.rules.proofs.problem.Problem.check_plan.Goals as goal
 
 pub returns-in_default : goal.returns-in_default
-returns-in_default c = record {
-  says = stops_at (task c.args.self.now) c.args.strike c.difference-walk.result c.args.places.now c.loop-i.i
-      c.loop-i.walk.standing.now.facts c.difference-walk.ensures c.loop-i.invariant c.loop-i-test.true c.in_default.ensures;
-  same = search rules;
-  once = checks_once;
-}
+returns-in_default c =
+    let begins = rw c.hold-walk.ensures.saved at c.difference-walk.ensures in
+    record {
+      says = stops_at (task c.args.self.now) c.args.strike c.difference-walk.result c.args.places.now c.loop-i.i
+          c.loop-i.walk.standing.now.facts begins c.loop-i.invariant c.loop-i-test.true c.in_default.ensures;
+      same = search rules;
+      once = checks_once;
+    }
 
 pub loop-i-preserved : goal.loop-i-preserved
 loop-i-preserved c =
+    let begins = rw c.hold-walk.ensures.saved at c.difference-walk.ensures in
     goes_on (task c.args.self.now) c.args.strike c.difference-walk.result c.args.places.now c.loop-i.i
-    c.loop-i.walk.standing.now.facts c.difference-walk.ensures c.loop-i.invariant c.in-Some.next.facts c.loop-i-test.true
+    c.loop-i.walk.standing.now.facts begins c.loop-i.invariant c.in-Some.next.facts c.loop-i-test.true
     c.in-Some.ensures
 
 pub returns-then-missing-eq0 : goal.returns-then-missing-eq0
-returns-then-missing-eq0 c = record {
-  says = ends_well (task c.args.self.now) c.args.strike c.difference-walk.result c.args.places.now c.loop-i.i
-      c.loop-i.walk.standing.now.facts c.difference-walk.ensures c.loop-i.invariant c.difference-order.result
-      c.difference-missing.result c.loop-i-test.false c.difference-order.ensures c.difference-missing.ensures c.if-missing-eq0.true;
-  same = search rules;
-  once = checks_once;
-}
+returns-then-missing-eq0 c =
+    let begins = rw c.hold-walk.ensures.saved at c.difference-walk.ensures in
+    record {
+      says = ends_well (task c.args.self.now) c.args.strike c.difference-walk.result c.args.places.now c.loop-i.i
+          c.loop-i.walk.standing.now.facts begins c.loop-i.invariant c.difference-order.result
+          c.difference-missing.result c.loop-i-test.false c.difference-order.ensures c.difference-missing.ensures c.if-missing-eq0.true;
+      same = search rules;
+      once = checks_once;
+    }
 
 pub returns : goal.returns
-returns c = record {
-  says = ends_short (task c.args.self.now) c.args.strike c.difference-walk.result c.args.places.now c.loop-i.i
-      c.loop-i.walk.standing.now.facts c.difference-walk.ensures c.loop-i.invariant c.difference-order.result
-      c.difference-missing.result c.loop-i-test.false c.difference-order.ensures c.difference-missing.ensures c.if-missing-eq0.false;
-  same = search rules;
-  once = checks_once;
-}
+returns c =
+    let begins = rw c.hold-walk.ensures.saved at c.difference-walk.ensures in
+    record {
+      says = ends_short (task c.args.self.now) c.args.strike c.difference-walk.result c.args.places.now c.loop-i.i
+          c.loop-i.walk.standing.now.facts begins c.loop-i.invariant c.difference-order.result
+          c.difference-missing.result c.loop-i-test.false c.difference-order.ensures c.difference-missing.ensures c.if-missing-eq0.false;
+      same = search rules;
+      once = checks_once;
+    }
