@@ -11,7 +11,7 @@ use Rattle.casefile.specs.declared.fault.ReadFault.{ReadFault}
 use Rattle.casefile.specs.declared.fault.ReadFault.TheVariants.{TextTooLong, BufferTooShort}
 use Rattle.casefile.specs.declared.fault.ServeFault.{ServeFault}
 use Rattle.casefile.specs.declared.fault.ServeFault.TheVariants as serve_fault
-use Rattle.casefile.specs.Faults.{too_long_bytes, reported_length}
+use Rattle.casefile.specs.Faults.{too_long_bytes, report_length}
 use Rattle.casefile.specs.Reporting.{Stage, Read, ReadsNext}
 use Rattle.casefile.specs.Chains.{LinesRead, none, more, Writes, Reports, ServesText}
 
@@ -70,7 +70,7 @@ module _ {D : Type 0} (c : Choice) (reach : D → Task → ℕ → ℕ → ℕ �
   -- where no line is read
   pub progress_unread
       : (x y z : Stage D) (out out' out'' : Option (List ℕ)) (buf buf' : List ℕ) (e : ReadFault) (r : Result Unit ServeFault) → length buf ≡ room
-      → Progress x y out out' → ReadsNext c reach m text y z buf buf' (Err e) → Reports e (take (reported_length e) buf') out' out'' r
+      → Progress x y out out' → ReadsNext c reach m text y z buf buf' (Err e) → Reports e (take (report_length e) buf') out' out'' r
       → ServesText c reach m text room x z out out'' r
   progress_unread x y z out out' out'' buf buf' BufferTooShort r long p (few, same, kept) (is, keeps') =
       elim p.begun [
@@ -80,10 +80,10 @@ module _ {D : Type 0} (c : Choice) (reach : D → Task → ℕ → ℕ → ℕ �
   progress_unread x y z out out' out'' buf buf' TextTooLong r long p (enough, many, same, printed) writes =
       elim p.begun [ inl (at, keeps) ↦ too_long r writes (same ∙ at) keeps | inr (roomy, short) ↦ absurd (omega arith) ]
     where
-      line : take (reported_length TextTooLong) buf' ≡ report_line too_long_bytes
-      line = printed_line too_long_bytes buf buf' (reported_length TextTooLong) printed
+      line : take (report_length TextTooLong) buf' ≡ report_line too_long_bytes
+      line = printed_line too_long_bytes buf buf' (report_length TextTooLong) printed
 
-      too_long : (r : Result Unit ServeFault) → Writes (take (reported_length TextTooLong) buf') out' out'' r → z ≡ x → Keeps out out'
+      too_long : (r : Result Unit ServeFault) → Writes (take (report_length TextTooLong) buf') out' out'' r → z ≡ x → Keeps out out'
           → ServesText c reach m text room x z out out'' r
       too_long (Ok u) w at keeps =
           (omega arith, (report_line too_long_bytes, inr (many, at, refl), Keeps-appends out out' out'' _ keeps (subst (Appends out' out'') line w)))

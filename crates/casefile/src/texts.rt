@@ -1,7 +1,7 @@
 //! Serving a whole text.
 
 ghost use Rattle.std.specs.Prelude.{◌≤◌, length, take};
-ghost use Rattle.casefile.specs.Faults.{reported_length};
+ghost use Rattle.casefile.specs.Faults.{report_length};
 ghost use Rattle.casefile.specs.Chains.{Writes, Reports};
 ghost use Rattle.casefile.specs.Desks.{KeepsLoans, KeepsReach, ServesTextAt};
 
@@ -23,8 +23,8 @@ fn write_line<W: Write>(buffer: &[u8], end: usize, output: &mut W) -> Result<(),
 
 /// Writes the report line that a fault has left at the front of the buffer, if it has left one.
 fn report_fault<W: Write>(fault: ReadFault, buffer: &[u8], output: &mut W) -> Result<(), ServeFault>
-    requires { reported_length fault ≤ length buffer.now }
-    ensures { Reports fault (take (reported_length fault) buffer.now)
+    requires { report_length fault ≤ length buffer.now }
+    ensures { Reports fault (take (report_length fault) buffer.now)
         (W.contents output.old) (W.contents output.new) result }
 {
     match fault {

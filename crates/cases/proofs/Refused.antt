@@ -11,10 +11,10 @@ use Rattle.waivers.specs.declared.fault.FinderFault.TheVariants.{Case, Size}
 use Rattle.cases.specs.declared.slip.SlipData.{SlipData}
 use Rattle.cases.specs.Plain.{Plain}
 use Rattle.cases.specs.Calls.{Drawing, Signing, Entry}
-use Rattle.cases.specs.Refusing.{usable_refusal, slip_of, is_out, case_refusal, of_case, of_size, refused}
+use Rattle.cases.specs.Refusing.{usable_refusal, slip_of, is_out, case_refusal, of_case, of_size, call_refusal}
 use Rattle.cases.specs.State.{State, state_with_slip}
 use Rattle.cases.specs.Making.{Draws}
-use Rattle.cases.specs.Replay.{rule, unless, next}
+use Rattle.cases.specs.Replay.{effect_of, plain_after}
 
 pub true_false : {A : Type 0} → true ≡ false → A
 true_false e = absurd (let z : ◌≡◌ {A = ℕ} 0 1 = cc in omega arith)
@@ -46,8 +46,8 @@ out_refuses p out = go (eqb p.task.n 0)
     go false = (SlipOut, ap (λ (o : Bool). cond o (Err SlipOut) (Ok tt)) out)
 
 -- what is refused changes nothing
-pub refused_stays : (p : Plain) (e : Entry) → Refuses (refused p e.asked) → next p e ≡ p
-refused_stays p e (f, is) = ap (λ (r : Result Unit FinderFault). unless r p (rule e.asked e.answered p)) is
+pub refused_stays : (p : Plain) (e : Entry) → Refuses (call_refusal p e.asked) → plain_after p e ≡ p
+refused_stays p e (f, is) = ap (λ (r : Result Unit FinderFault). after r (effect_of e.asked e.answered) p) is
 
 pub of_case_refuses : (r : Result Unit Refusal) → Refuses r → Refuses (of_case r)
 of_case_refuses r (e, is) = (Case e, ap of_case is)

@@ -11,7 +11,7 @@ use Rattle.waivers.specs.Known.{Listed}
 use Rattle.waivers.specs.Searching.{Choice}
 use Rattle.cases.specs.Plain.{Plain}
 use Rattle.cases.specs.Calls.{Asked, Finding, Drawing, Signing, AnswerTo, Entry}
-use Rattle.cases.specs.Refusing.{refused, drawing}
+use Rattle.cases.specs.Refusing.{call_refusal, drawn_answer}
 use Rattle.cases.specs.State.{State, fresh, known_of}
 use Rattle.cases.specs.Making.{Makes}
 use Rattle.cases.specs.Replay.{refusal_in, after_calls}
@@ -53,7 +53,7 @@ abbrev pub Promised : (Task → ℕ → ℕ → ℕ → Type 0) → ℕ → Plai
     → Plain → List ℕ → Type 0
 Promised reach m p (Finding s b) a p' gs =
     FoundTruly (λ x. reach p.task x (length s) (length b)) m p.task gs a.book a.result
-Promised reach m p Drawing r p' gs = r ≡ drawing p
+Promised reach m p Drawing r p' gs = r ≡ drawn_answer p
 Promised reach m p (Signing slip) r p' gs = IfOk r (λ u. Solvable p'.task 0)
 Promised reach m p x r p' gs = Unit {0}
 
@@ -65,7 +65,7 @@ pub record Keeps (c : Choice) (reach : Task → ℕ → ℕ → ℕ → Type 0) 
     (x : Asked) (r : AnswerTo x) (k' : State) : Type 0 where
   pub makes : Makes c reach m k x r k'
   pub state : k'.plain ≡ p'
-  pub refusal : refusal_in x r ≡ refused p x
+  pub refusal : refusal_in x r ≡ call_refusal p x
   pub promise : Promised reach m p x r p' k'.groups
   pub listed : Listed (known_of k')
 

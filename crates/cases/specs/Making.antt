@@ -9,7 +9,7 @@ use Rattle.waivers.specs.Known.{Listed}
 use Rattle.waivers.specs.Searching.{Choice}
 use Rattle.cases.specs.declared.slip.SlipData.{SlipData}
 use Rattle.cases.specs.Calls.{Asked, Opening, Changing, Finding, Drawing, Signing, Tearing, AnswerTo, Entry}
-use Rattle.cases.specs.Refusing.{case_refusal, drawing}
+use Rattle.cases.specs.Refusing.{case_refusal, drawn_answer}
 use Rattle.cases.specs.State.{State, fresh, known_of, state_opened, state_changed, state_signed, state_with_slip}
 use Rattle.cases.specs.Finding.{Finds}
 
@@ -33,7 +33,7 @@ Changes x k r k' = MadeOrRefused (case_refusal k.plain (Changing x)) (state_chan
 
 -- draw: the answer is what the slip says, or why none is drawn; the slip is out then
 pub record Draws (k : State) (r : Result SlipData Refusal) (k' : State) : Type 0 where
-  pub answer : r ≡ drawing k.plain
+  pub answer : r ≡ drawn_answer k.plain
   pub after : k' ≡ after (case_refusal k.plain Drawing) (state_with_slip true) k
 
 -- sign, and a signed slip leaves a case that has a plan

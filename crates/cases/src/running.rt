@@ -4,9 +4,8 @@ ghost use Rattle.std.specs.Prelude.{◌≡◌, List, Some, MatchResult, IfOk};
 ghost use Rattle.deciders.specs.Reaching.{Same};
 ghost use Rattle.waivers.specs.Known.{Listed};
 ghost use Rattle.cases.specs.State.{known_of};
-ghost use Rattle.cases.specs.View.{view};
 ghost use Rattle.cases.specs.Calls.{Entry, entry_of, Recorded};
-ghost use Rattle.cases.specs.Slips.{content_of, InHand, SaysOther};
+ghost use Rattle.cases.specs.Slips.{InHand, SaysOther};
 ghost use Rattle.cases.specs.Making.{Draws, Signs, Tears, Makes};
 ghost use Rattle.cases.specs.Law.{Law};
 
@@ -27,9 +26,9 @@ pub struct Outcome {
 
 /// Draws a slip. While one is in hand the case refuses, and no other is drawn.
 fn draw(case: &mut Case, in_hand: Option<Slip>) -> (Result<SlipData, Refusal>, Option<Slip>)
-    requires { InHand (view case.old).plain in_hand }
-    ensures draws { Draws (view case.old) result.0 (view case.new) }
-    ensures in_hand { InHand (view case.new).plain result.1 }
+    requires { InHand case.old.plain in_hand }
+    ensures draws { Draws case.old result.0 case.new }
+    ensures in_hand { InHand case.new.plain result.1 }
 {
     if let Some(slip) = in_hand {
         return (Err(Refusal::SlipOut), Some(slip));
@@ -43,7 +42,7 @@ fn draw(case: &mut Case, in_hand: Option<Slip>) -> (Result<SlipData, Refusal>, O
 /// The slip in hand, if it says this; else what is in hand stays there.
 fn take(in_hand: Option<Slip>, content: SlipData) -> Result<Slip, Option<Slip>>
     ensures { MatchResult result
-        (λ slip. (in_hand ≡ Some slip) × (content_of slip ≡ content))
+        (λ slip. (in_hand ≡ Some slip) × (slip ≡ content))
         (λ left. (left ≡ in_hand) × SaysOther content in_hand) }
 {
     match in_hand {
@@ -64,9 +63,9 @@ fn sign(
     in_hand: Option<Slip>,
     content: SlipData,
 ) -> (Result<(), Refusal>, Option<Slip>)
-    requires { InHand (view case.old).plain in_hand }
-    ensures signs { Signs content (view case.old) result.0 (view case.new) }
-    ensures in_hand { InHand (view case.new).plain result.1 }
+    requires { InHand case.old.plain in_hand }
+    ensures signs { Signs content case.old result.0 case.new }
+    ensures in_hand { InHand case.new.plain result.1 }
 {
     match take(in_hand, content) {
         Err(in_hand) => (case.check_slip(content), in_hand),
@@ -83,9 +82,9 @@ fn tear(
     in_hand: Option<Slip>,
     content: SlipData,
 ) -> (Result<(), Refusal>, Option<Slip>)
-    requires { InHand (view case.old).plain in_hand }
-    ensures tears { Tears content (view case.old) result.0 (view case.new) }
-    ensures in_hand { InHand (view case.new).plain result.1 }
+    requires { InHand case.old.plain in_hand }
+    ensures tears { Tears content case.old result.0 case.new }
+    ensures in_hand { InHand case.new.plain result.1 }
 {
     match take(in_hand, content) {
         Err(in_hand) => (case.check_slip(content), in_hand),
@@ -104,11 +103,11 @@ fn make<D: Decider, P: Picker>(
     picker: &P,
     call: Call,
 ) -> (Answer, Option<Slip>)
-    requires { InHand (view case.old).plain in_hand }
+    requires { InHand case.old.plain in_hand }
     ensures makes { (e : Entry) × (entry_of call result.0 ≡ Some e)
         × Makes (P.choice picker.now) (D.reach decider.old) D.MARK
-        (view case.old) e.asked e.answered (view case.new) }
-    ensures in_hand { InHand (view case.new).plain result.1 }
+        case.old e.asked e.answered case.new }
+    ensures in_hand { InHand case.new.plain result.1 }
     ensures same { Same (D.reach decider.old) (D.reach decider.new) }
 {
     match call {
@@ -159,9 +158,9 @@ pub fn run<D: Decider, P: Picker>(
 ) -> Result<Outcome, AllocFailed<Vec<Call>>>
     ensures law { MatchResult result
         (λ r. (es : List Entry) × Recorded calls.items r.answers.items es
-        × Law (P.choice picker.now) D.reach D.MARK decider.old es decider.new (view r.case))
+        × Law (P.choice picker.now) D.reach D.MARK decider.old es decider.new r.case)
         (λ e. (e.value ≡ calls) × (decider.new ≡ decider.old)) }
-    ensures slip { IfOk result (λ r. InHand (view r.case).plain r.slip) }
+    ensures slip { IfOk result (λ r. InHand r.case.plain r.slip) }
     ensures same { Same (D.reach decider.old) (D.reach decider.new) }
 {
     let (Ok(mut case), Ok(mut answers)) = (Case::new(heap), Vec::with_capacity(heap, calls.len()))
@@ -169,7 +168,7 @@ pub fn run<D: Decider, P: Picker>(
         return Err(AllocFailed { value: calls });
     };
     let mut slip = None;
-    // Kept: a loop, since the law is its invariant.
+    // A loop, since the law is its invariant.
     for call in calls {
         let (answer, in_hand) = make(&mut case, slip, decider, picker, call);
         slip = in_hand;

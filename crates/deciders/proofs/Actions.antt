@@ -5,8 +5,8 @@ use Rattle.rules.specs.Steps.{Step}
 use Rattle.rules.specs.Planning.{place_without}
 use Rattle.rules.specs.Listing.{Successor, adding_made, expanded, listing}
 use Rattle.deciders.specs.declared.struck.Action.{Action}
-use Rattle.deciders.specs.Struck.{actions_of, steps_of}
-use Rattle.deciders.specs.Searches.{no_action}
+use Rattle.deciders.specs.Search.Struck.{actions_of, steps_of}
+use Rattle.deciders.specs.Search.Searches.{no_action}
 
 -- ---- one place after another
 

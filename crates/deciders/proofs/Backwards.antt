@@ -1,5 +1,6 @@
 -- What a backward search says of plans.
 use Rattle.std.proofs.Common.{◌≡◌, ℕ, Bool, true, false, cond, T, List, [], ◌∷◌, ◌++◌, reverse, length, get_or, take, Some, None, Ok, Err, Result, sym, refl, ap, ◌∙◌, subst, inl, inr, arith}
+use Rattle.std.specs.Prelude.{IfOk}
 use mathlib.Core.List.{reverse-append, reverse-reverse}
 use Rattle.rules.specs.Steps.{Step, IsClear}
 use Rattle.rules.specs.Sets.{bit, ◌⊆◌, ◌∪◌, ◌∖◌, Meets, shares}
@@ -13,7 +14,7 @@ use Rattle.deciders.specs.declared.answer.Verdict.{Verdict}
 use Rattle.deciders.specs.declared.answer.Verdict.TheVariants as verdict
 use Rattle.deciders.specs.declared.answer.DeciderFault.{DeciderFault}
 use Rattle.deciders.specs.Answers.{Answers}
-use Rattle.deciders.specs.Searches.{Finds}
+use Rattle.deciders.specs.Search.Searches.{Finds}
 use Rattle.deciders.specs.Reaches.{backward, BackwardReach}
 use Rattle.deciders.specs.Theorems.{wanted, WantedLeads, LeadsWanted, WantedBlocked, BackwardExample}
 
@@ -104,7 +105,7 @@ backward_plan p l w path sub =
     →leads p p.standing l e (subst (λ k. Walk p.steps p.standing k e) (reverse-reverse l) walk) o
 
 -- what a backward search finds is what a decider has to answer
-pub backward_answers : (p : Task) (x m mark : ℕ) (book book' : List ℕ) (r : Result Verdict DeciderFault) → Consistent p
+pub backward_answers : (p : Task) (x m mark : ℕ) (book book' : List ℕ) (r : Result Verdict DeciderFault) → IfOk r (λ _. Consistent p)
     → Finds backward (λ w. w ⊆ (strike p x).standing) (strike p x).steps (strike p x).order x mark m book book' r
     → Answers (BackwardReach p x m (length book)) mark p x m book book' r
 backward_answers p x m mark book book' (Ok (verdict.Solvable k)) sane (reach, few, (w, path, sub), rest) =

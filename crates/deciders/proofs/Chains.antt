@@ -5,8 +5,8 @@ use Rattle.std.proofs.lemmas.Grind.{common_steps}
 use Rattle.rules.specs.Listing.{listed}
 use Rattle.rules.proofs.Listing.{T→true, listed→, →listed}
 use Rattle.deciders.specs.declared.row.Row.{Row}
-use Rattle.deciders.specs.Rows.{row, entries}
-use Rattle.deciders.specs.Chains.{hash_of, link, Indexed}
+use Rattle.deciders.specs.Search.Rows.{row, entries}
+use Rattle.deciders.specs.Search.Chains.{hash_of, link, Indexed}
 
 -- ---- the sets of the first rows
 

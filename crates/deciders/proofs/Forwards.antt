@@ -11,7 +11,7 @@ use Rattle.deciders.specs.declared.answer.Verdict.TheVariants as verdict
 use Rattle.deciders.specs.declared.answer.DeciderFault.{DeciderFault}
 use Rattle.deciders.specs.Answers.{Answers}
 use Rattle.deciders.proofs.Sizes.{sized→}
-use Rattle.deciders.specs.Searches.{Finds}
+use Rattle.deciders.specs.Search.Searches.{Finds}
 use Rattle.deciders.specs.Reaches.{ForwardReach}
 
 pub forward_plan : (p : Task) (l : List ℕ) (e : ℕ) → Path forward p.steps p.standing l e → p.order ⊆ e → Plan p l

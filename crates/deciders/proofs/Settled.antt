@@ -7,9 +7,9 @@ use Rattle.rules.proofs.Listing.{listing_stays, path_push}
 use Rattle.deciders.specs.declared.row.Row.{Row}
 use Rattle.deciders.specs.declared.struck.Action.{Action}
 use Rattle.deciders.specs.declared.listing.Unsettled.{Unsettled}
-use Rattle.deciders.specs.Rows.{row, entries, Sound, Climbs}
-use Rattle.deciders.specs.Struck.{actions_of, steps_of}
-use Rattle.deciders.specs.Searches.{no_action, ByAction, ByStep, Starts, Lists}
+use Rattle.deciders.specs.Search.Rows.{row, entries, Sound, Climbs}
+use Rattle.deciders.specs.Search.Struck.{actions_of, steps_of}
+use Rattle.deciders.specs.Search.Searches.{no_action, ByAction, ByStep, Starts, Lists}
 use Rattle.deciders.proofs.Chains.{entries_length, entries_at}
 use Rattle.deciders.proofs.Actions.{listing_same, action_held}
 

@@ -8,9 +8,9 @@ use Rattle.rules.proofs.Listing.{begins_expanded, listing_stays}
 use Rattle.deciders.specs.declared.row.Row.{Row}
 use Rattle.deciders.specs.declared.struck.Action.{Action}
 use Rattle.deciders.specs.declared.listing.Unsettled.{Unsettled}
-use Rattle.deciders.specs.Rows.{row, entries, Sound}
-use Rattle.deciders.specs.Struck.{steps_of}
-use Rattle.deciders.specs.Searches.{no_action, ByAction, Starts, Away, Expands, Lists}
+use Rattle.deciders.specs.Search.Rows.{row, entries, Sound}
+use Rattle.deciders.specs.Search.Struck.{steps_of}
+use Rattle.deciders.specs.Search.Searches.{no_action, ByAction, Starts, Away, Expands, Lists}
 use Rattle.deciders.proofs.Chains.{entries_length, entries_at, entries_more}
 
 -- ---- a list that begins with another

@@ -8,7 +8,7 @@ ghost use Rattle.deciders.specs.Answers.{reported};
 use rules::{Facts, Layer};
 
 /// The answer to a query inside the decider's reach.
-// Kept: both are answers that are proved, in the subject's words, and beside them stands `Err` for no answer; `None` would read as that
+// Both are answers that are proved, in the subject's words, and beside them stands `Err` for no answer; `None` would read as that
 #[derive(Clone, Copy, PartialEq, Eq, Debug)]
 pub enum Verdict {
     /// There is a plan of this length, and the plan book holds it.
@@ -29,7 +29,7 @@ impl DeciderFault {
     pub fn number(self) -> u8
         ensures { result ≡ (reported self).0 }
     {
-        // Kept: the byte of a report line; a case that holds values has no discriminant to cast.
+        // The byte of a report line; a case that holds values has no discriminant to cast.
         match self {
             DeciderFault::BeyondReach { .. } => 21,
         }

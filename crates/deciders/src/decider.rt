@@ -1,7 +1,7 @@
 //! What a decider is.
 
 ghost use Rattle.std.specs.Prelude.{◌≡◌, ℕ, length};
-ghost use Rattle.rules.specs.Planning.{Task, task};
+ghost use Rattle.rules.specs.Planning.{Task};
 ghost use Rattle.deciders.specs.Sizes.{Sized};
 ghost use Rattle.deciders.specs.Answers.{Answers};
 ghost use Rattle.deciders.specs.Reaching.{Same};
@@ -25,7 +25,7 @@ pub trait Decider {
     ghost reach: { Self → Task → ℕ → ℕ → ℕ → Type 0 };
 
     /// Whether the problem has a plan without the facts of `strike`. The rows are free afterwards.
-    // Kept: sheet and book are two slices of the caller's, each of its own size: a rule of the project.
+    // Sheet and book are two slices of the caller's, each of its own size: a rule of the project.
     fn query(
         &mut self,
         problem: &Problem,
@@ -33,9 +33,9 @@ pub trait Decider {
         sheet: &mut [Row],
         book: &mut [u8],
     ) -> Result<Verdict, DeciderFault>
-        ensures answer { let p = task problem.now in let m = length sheet.old in
-            Answers (reach self.old p strike m (length book.old)) MARK
-            p strike m book.old book.new result }
+        ensures answer { let m = length sheet.old in
+            Answers (reach self.old problem.now strike m (length book.old)) MARK
+            problem.now strike m book.old book.new result }
         ensures same { Same (reach self.new) (reach self.old) };
 
     // what breaks a size limit is outside every reach

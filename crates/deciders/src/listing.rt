@@ -3,8 +3,8 @@
 ghost use Rattle.std.specs.Prelude.{◌≡◌, ℕ, ◌+◌, ◌<◌, ◌≤◌, [], length, take, drop, IfSome, IfNone, IfOk, OnErr, slice_set};
 ghost use Rattle.std.proofs.Props.{props};
 ghost use Rattle.rules.specs.Listing.{listed};
-ghost use Rattle.deciders.specs.Rows.{row as row_of, entries, Climbs};
-ghost use Rattle.deciders.specs.Chains.{Indexed};
+ghost use Rattle.deciders.specs.Search.Rows.{row as row_of, entries, Climbs};
+ghost use Rattle.deciders.specs.Search.Chains.{Indexed};
 
 use crate::index::Index;
 use crate::row::Row;
@@ -15,7 +15,7 @@ use rules::Facts;
 pub(crate) struct Unsettled;
 
 /// The entries on the first rows of a sheet, with an index over them, so that it costs little to ask whether a set is listed.
-// Kept: rows and how many are filled, since the sheet is a slice of the caller's, a rule of the project.
+// Rows and how many are filled, since the sheet is a slice of the caller's, a rule of the project.
 #[derive(Drop)]
 pub(crate) struct Listing<'a> {
     rows: &'a mut [Row],

@@ -1,7 +1,7 @@
 //! The screen, over any decider.
 
 ghost use Rattle.std.specs.Prelude.{◌≡◌, ◌↔◌, IsTrue};
-ghost use Rattle.rules.specs.Planning.{task, strike as strike_out};
+ghost use Rattle.rules.specs.Planning.{strike as strike_out};
 ghost use Rattle.deciders.specs.Reaches.{ScreenedOut, ScreenReach};
 ghost use Rattle.std.proofs.Common.{rules};
 
@@ -16,7 +16,7 @@ use rules::{Facts, Problem};
 ///
 /// No step is struck out for it: what is gone stands all along, so that no step waits for it.
 fn is_screened_out(problem: &Problem, strike: Facts) -> bool
-    ensures { IsTrue result ↔ ScreenedOut (strike_out (task problem.now) strike) }
+    ensures { IsTrue result ↔ ScreenedOut (strike_out problem.now strike) }
 {
     let gone = strike | problem.waived;
     let all = problem.standing.facts | gone;

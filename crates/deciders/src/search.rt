@@ -1,12 +1,12 @@
 //! A search: it lists entries on a sheet, expands each entry in turn, and stops at one that is wanted.
 
-ghost use Rattle.std.specs.Prelude.{◌≡◌, ℕ, ◌<◌, T, length};
-ghost use Rattle.rules.specs.Planning.{task, strike as strike_out};
+ghost use Rattle.std.specs.Prelude.{◌≡◌, ℕ, ◌<◌, T, length, IfOk};
+ghost use Rattle.rules.specs.Planning.{strike as strike_out, Consistent};
 ghost use Rattle.rules.specs.Listing.{Successor};
 ghost use Rattle.deciders.specs.declared.struck.StruckOut.{StruckOut as Struck};
-ghost use Rattle.deciders.specs.Rows.{row as row_of, entries, Sound};
-ghost use Rattle.deciders.specs.Struck.{struck_out};
-ghost use Rattle.deciders.specs.Searches.{ByAction, Away, Expands, Lists, Finds};
+ghost use Rattle.deciders.specs.Search.Rows.{row as row_of, entries, Sound};
+ghost use Rattle.deciders.specs.Search.Struck.{struck_out};
+ghost use Rattle.deciders.specs.Search.Searches.{ByAction, Away, Expands, Lists, Finds};
 
 use crate::answer::{DeciderFault, Verdict};
 use crate::index::Index;
@@ -122,9 +122,10 @@ impl Search {
         sheet: &mut [Row],
         book: &mut [u8],
     ) -> Result<Verdict, DeciderFault>
-        ensures { let p = task problem.now in let q = struck_out p strike in
-            Finds D.makes (D.wants q) (strike_out p strike).steps (D.start_of q)
+        ensures finds { let q = struck_out problem.now strike in
+            Finds D.makes (D.wants q) (strike_out problem.now strike).steps (D.start_of q)
             strike mark (length sheet.old) book.old book.new result }
+        ensures consistent { IfOk result (λ _. Consistent problem.now) }
     {
         let fault = DeciderFault::BeyondReach { set: strike, mark };
         if check_sizes(sheet.len(), book.len()).is_err() {

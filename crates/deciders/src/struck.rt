@@ -1,8 +1,8 @@
 //! A problem once facts are struck out.
 
 ghost use Rattle.std.specs.Prelude.{◌≡◌};
-ghost use Rattle.rules.specs.Planning.{task};
-ghost use Rattle.deciders.specs.Struck.{struck_out};
+ghost use Rattle.rules.specs.Planning.{Consistent};
+ghost use Rattle.deciders.specs.Search.Struck.{struck_out};
 
 use arrayvec::ArrayVec;
 use rules::{Facts, Problem, Step, difference};
@@ -24,9 +24,10 @@ pub(crate) struct StruckOut {
 
 impl StruckOut {
     /// Becomes the problem without the facts of `strike` and the waived ones.
-    // Kept: filled in its place, in the memory of a search; making it anew and moving it took 14 ns a query.
+    // Filled in its place, in the memory of a search; making it anew and moving it took 14 ns a query.
     pub(crate) fn fill(&mut self, problem: &Problem, strike: Facts)
-        ensures { self.new ≡ struck_out (task problem.now) strike }
+        ensures struck { self.new ≡ struck_out problem.now strike }
+        ensures consistent { Consistent problem.now }
     {
         let gone = strike | problem.waived;
         self.standing = difference(problem.standing.facts, gone);

@@ -2,7 +2,7 @@
 
 #![tactic(auto)]
 
-use desk::serve_input;
+use console::serve_input;
 
 fn main(rt: HostRuntime) -> anyhow::Result<()> {
     serve_input(&rt)

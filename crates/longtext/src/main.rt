@@ -2,7 +2,7 @@
 
 #![tactic(auto)]
 
-use desk::serve_input;
+use console::serve_input;
 
 // Kept: a program of its own, since the gate runs each program on one input alone.
 fn main(rt: HostRuntime) -> anyhow::Result<()> {

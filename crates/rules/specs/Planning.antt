@@ -1,7 +1,7 @@
 -- Planning: tasks, doing a step, plans, and striking facts out.
 use Rattle.std.specs.Prelude.{◌≡◌, ℕ, List, [], ◌∷◌, map, Some, None, Option, slice_index_or}
-use Rattle.rules.specs.Steps.{Step, IsClear}
-use Rattle.rules.specs.declared.problem.Problem.{Problem}
+use Rattle.rules.specs.Steps.{Step}
+use Rattle.rules.specs.Places.{AllClear}
 use Rattle.rules.specs.Sets.{◌⊆◌, ◌∪◌, ◌∖◌}
 
 -- What a case is planned over: the number of facts, the facts that stand, those ordered, those
@@ -12,16 +12,6 @@ pub record Task : Type 0 where
   pub order : ℕ
   pub waived : ℕ
   pub steps : List (Option Step)
-
--- the task that the program's problem holds
-abbrev pub task : Problem → Task
-task p = record {
-  n = p.n;
-  standing = p.standing.facts;
-  order = p.order;
-  waived = p.waived;
-  steps = p.table.places;
-}
 
 -- what the place i holds: a step, or nothing
 abbrev pub held : Task → ℕ → Option Step
@@ -79,4 +69,4 @@ Blocked p x = Solvable p x → ⊥
 
 -- no step of the task gives a fact that it takes
 abbrev pub Consistent : Task → Type 0
-Consistent p = (i : ℕ) (t : Step) → held p i ≡ Some t → IsClear t
+Consistent p = AllClear p.steps

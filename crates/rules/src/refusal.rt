@@ -39,7 +39,7 @@ impl Refusal {
     pub fn number(self) -> u8
         ensures { result ≡ number_of self }
     {
-        // Kept: two refusals share a number, so it can't be a discriminant.
+        // Two refusals share a number, so it can't be a discriminant.
         match self {
             Refusal::Unopened => 4,
             Refusal::AlreadyOpen => 4,

@@ -1,5 +1,5 @@
 use Rattle.std.proofs.Common.{◌≡◌, length}
-use Rattle.deciders.specs.Rows.{row, entries}
+use Rattle.deciders.specs.Search.Rows.{row, entries}
 use Rattle.deciders.proofs.Sheets.{Going}
 use Rattle.deciders.proofs.listing.Listing.expand.Given as goal
 

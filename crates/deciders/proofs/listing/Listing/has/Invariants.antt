@@ -1,5 +1,5 @@
-use Rattle.deciders.specs.Rows.{entries}
-use Rattle.deciders.specs.Chains.{link}
+use Rattle.deciders.specs.Search.Rows.{entries}
+use Rattle.deciders.specs.Search.Chains.{link}
 use Rattle.deciders.proofs.Chains.{Looking}
 use Rattle.deciders.proofs.listing.Listing.has.Given as goal
 

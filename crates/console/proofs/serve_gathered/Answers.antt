@@ -1,7 +1,7 @@
 use Rattle.std.proofs.Common.{◌≡◌, Err, rules}
 use Rattle.casefile.specs.declared.fault.ServeFault.TheVariants as serve_fault
 use Rattle.casefile.proofs.Chains.{unflushed}
-use Rattle.desk.proofs.serve_gathered.Goals as goal
+use Rattle.console.proofs.serve_gathered.Goals as goal
 
 pub returns-in_err-flush-clause-serves : goal.returns-in_err-flush-clause-serves
 returns-in_err-flush-clause-serves g c =

@@ -1,6 +1,6 @@
 use Rattle.std.proofs.Common.{ℕ, take, sym, ap, ◌∙◌}
-use Rattle.desk.proofs.Texts.{read_up_to}
-use Rattle.desk.proofs.read_text.Goals as goal
+use Rattle.console.proofs.Texts.{read_up_to}
+use Rattle.console.proofs.read_text.Goals as goal
 
 pub returns-clause-bytes : goal.returns-clause-bytes
 returns-clause-bytes g c =

@@ -1,4 +1,4 @@
-//! The licence desk: a case file from standard input, and one report line for each of its lines on standard output.
+//! The program's standard input and output: reads a case file, and writes one report line for each of its lines.
 
 #![tactic(auto)]
 

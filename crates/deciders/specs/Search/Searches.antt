@@ -10,8 +10,8 @@ use Rattle.deciders.specs.declared.answer.Verdict.TheVariants as verdict
 use Rattle.deciders.specs.declared.answer.DeciderFault.{DeciderFault}
 use Rattle.deciders.specs.Sizes.{Sized}
 use Rattle.deciders.specs.Answers.{reported}
-use Rattle.deciders.specs.Rows.{row, entries, Sound}
-use Rattle.deciders.specs.Struck.{steps_of}
+use Rattle.deciders.specs.Search.Rows.{row, entries, Sound}
+use Rattle.deciders.specs.Search.Struck.{steps_of}
 
 -- what stands past the last action
 abbrev pub no_action : Action
