@@ -1,6 +1,5 @@
 -- Each call that is made as its contract says keeps the law, and so do lists of calls.
 use Rattle.std.proofs.Common.{◌≡◌, ℕ, ◌≤◌, true, false, List, [], ◌∷◌, ◌++◌, length, get_or, Ok, Err, IfOk, Result, sym, refl, ap, ◌∙◌, subst, arith}
-use Rattle.std.proofs.lemmas.Simd.{Each1-from_get_or}
 use Rattle.rules.specs.declared.refusal.Refusal.{Refusal}
 use Rattle.rules.specs.Sets.{Meets}
 use Rattle.rules.specs.Planning.{Task, Solvable}
@@ -60,7 +59,7 @@ draw_refusal_by (Err e) slip = refl
 
 -- every good set meets each listed group
 all_met : (p : Task) (gs : List ℕ) → Listed (record { task = p; groups = gs }) → (x : ℕ) → Good p x → Hits gs x
-all_met p gs listed x good = Each1-from_get_or (λ g. Meets x g) gs 0 (λ i lt. duality p x (get_or gs i 0) good (listed.each i 0 lt))
+all_met p gs listed x good i d lt = duality p x (get_or gs i d) good (listed.each i d lt)
 
 -- ---- find
 

@@ -116,15 +116,10 @@ fn run_large(rt: &HostRuntime, count: &Problem, switched: &Problem) -> io::Resul
 }
 
 fn run(rt: &HostRuntime) -> Result<(), RunFault> {
-    // Kept: `?` on a problem gets no proof, since its table holds steps, which have a model.
-    let (Ok(free), Ok(case), Ok(count), Ok(switched)) = (
-        free_facts(),
-        licence(),
-        counter(),
-        switches(),
-    ) else {
-        return Err(RunFault::Refused);
-    };
+    let free = free_facts()?;
+    let case = licence()?;
+    let count = counter()?;
+    let switched = switches()?;
     run_free(rt, &free)?;
     run_licence(rt, &case)?;
     run_limits(rt, &case)?;

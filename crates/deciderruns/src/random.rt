@@ -134,11 +134,8 @@ pub(crate) fn compare() -> Result<Tally, Refusal> {
     let mut asked = Asked::default();
     let mut tally = Tally::default();
     for _ in 0..PROBLEMS {
-        // Kept: `?` on a problem gets no proof, since its table holds steps, which have a model.
-        match problem(&mut sets) {
-            Ok(problem) => ask_all(&mut asked, &problem, sets.few(), &mut tally),
-            Err(refusal) => return Err(refusal),
-        }
+        let problem = problem(&mut sets)?;
+        ask_all(&mut asked, &problem, sets.few(), &mut tally);
     }
     Ok(tally)
 }

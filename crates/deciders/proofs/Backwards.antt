@@ -1,13 +1,15 @@
 -- What a backward search says of plans.
-use Rattle.std.proofs.Common.{◌≡◌, ℕ, Bool, true, false, cond, T, List, [], ◌∷◌, ◌++◌, reverse, length, get_or, take, Some, None, Ok, Err, Result, sym, refl, ap, ◌∙◌, subst, inl, inr, arith}
-use Rattle.std.specs.Prelude.{IfOk}
+use Rattle.std.proofs.Common.{◌≡◌, ℕ, Bool, true, false, cond, T, List, [], ◌∷◌, ◌++◌, reverse, length, get_or, take, Some, None, Ok, Err, Option, Result, sym, refl, ap, ◌∙◌, subst, inl, inr, arith}
+use Rattle.std.specs.Prelude.{IfSome, IfOk}
+use Rattle.std.proofs.lemmas.List.Elements.{All-map}
 use mathlib.Core.List.{reverse-append, reverse-reverse}
 use Rattle.rules.specs.Steps.{Step, IsClear}
 use Rattle.rules.specs.Sets.{bit, ◌⊆◌, ◌∪◌, ◌∖◌, Meets, shares}
-use Rattle.rules.specs.Planning.{Task, held, done, Walk, Plan, strike, gone, Consistent}
+use Rattle.rules.specs.Planning.{Task, held, done, Walk, Plan, place_without, strike, gone, Consistent}
 use Rattle.rules.specs.Listing.{Path, forward}
 use Rattle.rules.proofs.Sets.{bits, meets_or_apart, apart→, →apart, apart_without, share_test, test_share}
-use Rattle.rules.proofs.Plans.{held_struck, some_without, leads→, →leads}
+use Rattle.rules.proofs.Plans.{leads→, →leads}
+use Rattle.rules.proofs.Tables.{clear_at}
 use Rattle.rules.proofs.Listing.{T→true, path_push, listed_reached, reached_listed}
 use Rattle.rules.proofs.Forwards.{forward_walks, →forward}
 use Rattle.deciders.specs.declared.answer.Verdict.{Verdict}
@@ -68,7 +70,7 @@ module _ (p : Task) (sane : Consistent p) where
   regress [] s e q o = (p.order, [], refl, λ f. omega (arith, o f, ap (λ n. bit n f) q))
   regress (i ∷ l) s e (t, is, can, on) o =
       let (v, k, path, sub) = regress l (done t s) e on o in
-      let a = apart→ t.gives t.takes (→apart t.gives t.takes (sane i t is)) in
+      let a = apart→ t.gives t.takes (→apart t.gives t.takes (clear_at p.steps i t sane is)) in
       elim (meets_or_apart t.gives v) [
         | inl meets ↦ (
           before t v,
@@ -94,10 +96,14 @@ wanted_blocked p m sane whole away l plan =
 
 -- ---- striking out leaves no step that gives what it takes
 
+clear_without : (g : ℕ) (o : Option Step) → IfSome o IsClear → IfSome (place_without g o) IsClear
+clear_without g None h = tt
+clear_without g (Some u) h = apart_without u.gives u.takes g h
+
 pub struck_consistent : (p : Task) (x : ℕ) → Consistent p → Consistent (strike p x)
-struck_consistent p x sane i t e =
-    let (u, has, q) = some_without (gone p x) (held p i) t (sym (held_struck p x i) ∙ e) in
-    subst IsClear q (apart_without u.gives u.takes (gone p x) (sane i u has))
+struck_consistent p x sane =
+    let g : ℕ = gone p x in
+    All-map (λ o. IfSome o IsClear) (place_without g) p.steps (λ i d lt. clear_without g (get_or p.steps i d) (sane i d lt))
 
 pub backward_plan : (p : Task) (l : List ℕ) (w : ℕ) → Path backward p.steps p.order (reverse l) w → w ⊆ p.standing → Plan p l
 backward_plan p l w path sub =

@@ -1,11 +1,14 @@
 -- Closures: one round, the closure as the last of many rounds, and what is outside it.
 use Rattle.std.proofs.Common.{Bool, true, false, not, IsTrue, ◌↔◌, ◌≡◌, ℕ, zero, suc, ◌+◌, ◌<◌, ◌≤◌, ◌⊎◌, List, [], ◌∷◌, map, length, get_or, Some, None, Option, refl, sym, ap, ◌∙◌, subst, inl, inr, arith}
+use lib.ListN.{get_or-map}
 use Rattle.std.proofs.lemmas.Bool.{cases_eq}
 use Rattle.std.proofs.lemmas.Grind.{common_steps}
 use Rattle.rules.specs.Steps.{Step}
 use Rattle.rules.specs.Sets.{bit, ◌⊆◌, ◌∪◌, ◌∖◌}
 use Rattle.rules.specs.Planning.{Task, done, Leads, place_without, step_without, gone, strike}
 use Rattle.rules.proofs.Sets.{bits, sub_le, same_facts, inside_dec}
+use Rattle.rules.proofs.Tables.{all_gives}
+use Rattle.rules.proofs.Plans.{some_without}
 use Rattle.deciders.specs.Closures.{Under, Closed, Closure, Round}
 use Rattle.deciders.specs.Reaches.{ScreenedOut}
 use Rattle.deciders.specs.Theorems.{ClosureExists, ClosureUnique, ScreenedBlocked}
@@ -86,18 +89,6 @@ module _ (ts : List (Option Step)) where
     | inr (r, y, up, low) ↦ closing_on s d z k r y (omega arith)
   ]
 
-all_gives : (ts : List (Option Step)) → (g : ℕ) × ((i : ℕ) (t : Step) → get_or ts i None ≡ Some t → t.gives ⊆ g)
-all_gives [] = (0, λ i t e. cc)
-all_gives (None ∷ ts) = let (g, h) = all_gives ts in
-    (g, λ i. elim i as (λ i. (t : Step) → get_or (None ∷ ts) i None ≡ Some t → t.gives ⊆ g) [ zero ↦ (λ t e. cc) | suc j ↦ h j ])
-all_gives (Some u ∷ ts) = let (g, h) = all_gives ts in (
-  u.gives ∪ g,
-  λ i. elim i as (λ i. (t : Step) → get_or (Some u ∷ ts) i None ≡ Some t → t.gives ⊆ u.gives ∪ g) [
-    | zero ↦ (λ t e f. let q : u ≡ t = cc in omega (arith, bits, ap (λ (v : Step). bit v.gives f) q))
-    | suc j ↦ (λ t e. let y = h j t e in λ f. omega (arith, bits, y f))
-  ],
-)
-
 pub closure_exists : ClosureExists
 closure_exists ts s =
     let (g, h) = all_gives ts in
@@ -125,27 +116,16 @@ screened_blocked p (c, x, out) l plan = out (stays_inside p c x.0.1 p.standing l
 
 -- ---- facts struck out
 
--- what the place i holds without the facts of g
-without_at : (g : ℕ) (ts : List (Option Step)) (i : ℕ) → get_or (map (place_without g) ts) i None ≡ place_without g (get_or ts i None)
-without_at g [] i = refl
-without_at g (o ∷ ts) zero = refl
-without_at g (o ∷ ts) (suc i) = without_at g ts i
-
--- a step without the facts of g is one of the steps, without them
-struck_from : (g : ℕ) (o : Option Step) (t : Step) → place_without g o ≡ Some t → (u : Step) × (o ≡ Some u) × (step_without g u ≡ t)
-struck_from g None t e = cc
-struck_from g (Some u) t e = (u, refl, cc)
-
 module _ (g : ℕ) (ts : List (Option Step)) where
   under_without : (c : ℕ) → g ⊆ c → Under ts c → Under (map (place_without g) ts) (c ∖ g)
   under_without c all under i t e can =
-      let (u, is, same) = struck_from g (get_or ts i None) t (sym (without_at g ts i) ∙ e) in
+      let (u, is, same) = some_without g (get_or ts i None) t (sym (get_or-map (place_without g) ts i None) ∙ e) in
       let gives = under i u is (λ f. omega (arith, bits, all f, can f, ap (λ (v : Step). bit v.needs f) same)) in
       λ f. omega (arith, bits, gives f, ap (λ (v : Step). bit v.gives f) same)
 
   under_with : (d : ℕ) → Under (map (place_without g) ts) d → Under ts (d ∪ g)
   under_with d under i u is can =
-      let gives = under i (step_without g u) (without_at g ts i ∙ ap (place_without g) is) (λ f. omega (arith, bits, can f)) in
+      let gives = under i (step_without g u) (get_or-map (place_without g) ts i None ∙ ap (place_without g) is) (λ f. omega (arith, bits, can f)) in
       λ f. omega (arith, bits, gives f)
 
   -- what stands all along may be struck out afterwards

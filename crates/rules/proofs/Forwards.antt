@@ -10,6 +10,7 @@ use Rattle.rules.proofs.Sets.{bits, sub_le, inside→, →inside, inside_dec}
 use Rattle.rules.proofs.Plans.{leads→, →leads}
 use Rattle.rules.proofs.Listing.{T→true, reached_listed, listed_reached}
 use Rattle.rules.proofs.Ends.{listing_ends}
+use Rattle.rules.proofs.Tables.{all_gives}
 
 -- ---- a step leads forward exactly where it can be done
 
@@ -72,24 +73,7 @@ more_power : (a b c : ℕ) → a < 2 ^ b → b ≤ c → a < 2 ^ c
 more_power a b c h k = omega (arith, pow_mono k)
 
 given_below : (ts : List (Option Step)) → (b : ℕ) × ((i : ℕ) (t : Step) → get_or ts i None ≡ Some t → t.gives < 2 ^ b)
-given_below [] = (0, λ i t e. absurd (let z : ◌≡◌ {A = ℕ} 0 1 = cc in omega arith))
-given_below (None ∷ ts) = let (b, h) = given_below ts in (
-  b,
-  λ i. elim i as (λ i. (t : Step) → get_or (None ∷ ts) i None ≡ Some t → t.gives < 2 ^ b) [
-    | zero ↦ (λ t e. absurd (let z : ◌≡◌ {A = ℕ} 0 1 = cc in omega arith))
-    | suc j ↦ h j
-  ],
-)
-given_below (Some u ∷ ts) =
-    let (b, h) = given_below ts in
-    let c : ℕ = b + u.gives in (
-      c,
-      λ i. elim i as (λ i. (t : Step) → get_or (Some u ∷ ts) i None ≡ Some t → t.gives < 2 ^ c) [
-        | zero ↦ (λ t e. let q : u ≡ t = cc in
-            subst (λ (v : Step). v.gives < 2 ^ c) q (more_power u.gives u.gives c (below_power u.gives) (omega arith)))
-        | suc j ↦ (λ t e. more_power t.gives b c (h j t e) (omega arith))
-      ],
-    )
+given_below ts = let (g, h) = all_gives ts in (g, λ i t e. omega (arith, sub_le g t.gives (h i t e), below_power g))
 
 sized : (p : Task) → (b : ℕ) × Sized b p
 sized p =

@@ -2,6 +2,7 @@
 use Rattle.std.proofs.Common.{◌≡◌, ℕ, zero, suc, ◌+◌, ◌-◌, ◌<◌, ◌≤◌, Bool, true, false, cond, not, ◌||◌, T, eqb, ltb, ◌⊎◌, List, [], ◌∷◌, ◌++◌, length, get_or, Some, None, Option, sym, refl, ap, ◌∙◌, subst, inl, inr, suc-add, zero-add, arith, eqb→eq, ltb→lt, nltb→le, length-append}
 use native.Mathlib.Decide.{dec_lt}
 use lib.ListN.{get_or-append}
+use Rattle.std.proofs.lemmas.List.{get_or_push}
 use lib.Dec.{eqb_refl}
 use Rattle.rules.specs.Steps.{Step}
 use Rattle.rules.specs.Listing.{Successor, listed, adding, adding_made, expanded, listing, Whole, Path}
@@ -51,12 +52,8 @@ begins_on a b c h k = record { longer = omega arith; same = λ i j. k.same i (om
 pub at_begins : (s : ℕ) (a b : List ℕ) → Begins a b → At s a → At s b
 at_begins s a b h (i, k, e) = (i, omega arith, h.same i k ∙ e)
 
-pub last_is : (l : List ℕ) (s : ℕ) → get_or (l ++ s ∷ []) (length l) 0 ≡ s
-last_is [] s = refl
-last_is (a ∷ l) s = last_is l s
-
 at_end : (s : ℕ) (l : List ℕ) → At s (l ++ s ∷ [])
-at_end s l = (length l, omega (arith, length-append l (s ∷ [])), last_is l s)
+at_end s l = (length l, omega (arith, length-append l (s ∷ [])), get_or_push l s 0 (length l) refl)
 
 at_either : (a s : ℕ) (l : List ℕ) → At a (l ++ s ∷ []) → At a l ⊎ (s ≡ a)
 at_either a s [] (zero, h, e) = inr e
@@ -110,8 +107,7 @@ apart_push l s new apart i j i<j j<l e =
     let at : get_or (l ++ s ∷ []) i 0 ≡ get_or l i 0 = get_or-append l (s ∷ []) 0 i (omega arith) in
     elim (dec_lt j (length l)) [
       | yes lt ↦ apart i j i<j lt (sym at ∙ e ∙ get_or-append l (s ∷ []) 0 j lt)
-      | no ge ↦ (let q : j ≡ length l = omega arith in
-          new (i, omega arith, sym at ∙ e ∙ ap (λ n. get_or (l ++ s ∷ []) n 0) q ∙ last_is l s))
+      | no ge ↦ new (i, omega arith, sym at ∙ e ∙ get_or_push l s 0 j (omega arith))
     ]
 
 pub apart_adding : (s : ℕ) (l : List ℕ) → Apart l → Apart (adding s l)

@@ -9,7 +9,7 @@ use Rattle.rules.specs.Planning.{Task, held, done, Plan, Walk}
 -- what the place holds can't be done in the standing s: it holds nothing, as every place above 63,
 -- or a step that lacks a need
 abbrev pub Undoable : Option Step → ℕ → Type 0
-Undoable o s = (o ≡ None) ⊎ ((t : Step) × (o ≡ Some t) × (t.needs ⊆ s → ⊥))
+Undoable o s = (o ≡ None) ⊎ ((t : Step) × (o ≡ Some t) × ¬ (t.needs ⊆ s))
 
 -- what the plan check says of the places l
 abbrev pub Checks : Task → List ℕ → PlanCheck → Type 0

@@ -1,12 +1,12 @@
 -- The step places of a table: what holds of each, and when filling and emptying one is refused.
-use Rattle.std.specs.Prelude.{◌≡◌, ℕ, cond, List, is_some, Some, None, Ok, Err, Option, Result, nat_lt, slice_index_or}
+use Rattle.std.specs.Prelude.{ℕ, cond, List, is_some, None, Ok, Err, Option, Result, nat_lt, slice_index_or, All, IfSome}
 use Rattle.rules.specs.Steps.{Step, IsClear}
 use Rattle.rules.specs.declared.refusal.Refusal.{Refusal}
 use Rattle.rules.specs.declared.refusal.Refusal.TheVariants.{NoSuchPlace, PlaceTaken, PlaceEmpty}
 
 -- no step in the places gives a fact that it takes
 abbrev pub AllClear : List (Option Step) → Type 0
-AllClear ts = (i : ℕ) (t : Step) → slice_index_or ts i None ≡ Some t → IsClear t
+AllClear ts = All (λ o. IfSome o IsClear) ts
 
 -- whether a step may be put at the place i: it is one of 64 and empty
 abbrev pub put_refusal : List (Option Step) → ℕ → Result Unit Refusal

@@ -1,11 +1,12 @@
 -- What is proved of the rules.
-use Rattle.std.specs.Prelude.{◌≡◌, ℕ, ◌^◌, ◌<◌, ◌≤◌, ◌⊎◌, ◌↔◌, List, length, Some, None, Option, ◌≢◌, slice_index, slice_index_or, slice_set}
-use Rattle.std.specs.Simd.Lanes.{Each1}
+use Rattle.std.specs.Prelude.{◌≡◌, ◌≢◌, ℕ, ◌^◌, ◌<◌, ◌≤◌, ◌⊎◌, ◌↔◌, Some, None, Option}
+use Rattle.std.specs.Prelude.{List, length, All, EachIndex, slice_index, slice_set}
 use Rattle.rules.specs.Steps.{Step}
 use Rattle.rules.specs.Sets.{◌⊆◌, ◌∖◌, Meets, size}
 use Rattle.rules.specs.Planning.{Task, held, done, Plan, Walk, strike, Solvable, Blocked}
 use Rattle.rules.specs.Setters.{with_standing, with_order, with_steps}
-use Rattle.rules.specs.Waivers.{waivable, Good, Group, MinimalGroup, Smallest, LargestBlocked}
+use Rattle.rules.specs.Waivers.{waivable, Good, Group, MinimalGroup, LargestBlocked}
+use Rattle.rules.specs.Waivers.{MinimumHittingSet}
 use Rattle.rules.specs.Listing.{Successor, listing, Whole, Path, forward, standings}
 
 -- ---- what never blocks
@@ -51,20 +52,20 @@ PlansWalk = (p : Task) (l : List ℕ)
 abbrev pub Duality : Type 0
 Duality = (p : Task) (x g : ℕ) → Good p x → Group p g → Meets x g
 
--- A smallest set that meets a list of groups has only waivable facts, and no good set is smaller.
+-- A minimum hitting set of a list of groups has only waivable facts, and no good set is smaller.
 abbrev pub Hitting : Type 0
-Hitting = (p : Task) (gs : List ℕ) (h : ℕ) → Each1 (λ g. Group p g) gs → Smallest gs h
+Hitting = (p : Task) (gs : List ℕ) (h : ℕ) → All (Group p) gs → MinimumHittingSet gs h
     → (h ⊆ waivable p) × ((x : ℕ) → Good p x → size h ≤ size x)
 
 -- With an empty group no good set exists.
 abbrev pub NoWay : Type 0
-NoWay = (p : Task) (x : ℕ) → Group p 0 → Good p x → ⊥
+NoWay = (p : Task) (x : ℕ) → Group p 0 → ¬ Good p x
 
 -- The waivable facts outside a largest blocked set are a group, which shares no fact with that set,
 -- and no proper part of it is a group.
 abbrev pub LargestOutside : Type 0
 LargestOutside = (p : Task) (m : ℕ) → LargestBlocked p m
-    → MinimalGroup p (waivable p ∖ m) × (Meets m (waivable p ∖ m) → ⊥)
+    → MinimalGroup p (waivable p ∖ m) × ¬ Meets m (waivable p ∖ m)
 
 -- ---- listings, whatever a step makes of an entry
 
@@ -115,13 +116,13 @@ ForwardWalks = (ts : List (Option Step)) (s : ℕ) (l : List ℕ) (e : ℕ)
 -- exists.
 abbrev pub WholeBlocked : Type 0
 WholeBlocked = (p : Task) (m : ℕ) → Whole forward p.steps p.standing m
-    → ((i : ℕ) → i < length (standings p m) → p.order ⊆ slice_index_or (standings p m) i 0 → ⊥)
-    → (l : List ℕ) → Plan p l → ⊥
+    → EachIndex (standings p m) (λ i. ¬ (p.order ⊆ slice_index (standings p m) i))
+    → (l : List ℕ) → ¬ Plan p l
 
 -- A standing that is listed and contains the order means that there is a plan.
 abbrev pub ListedPlan : Type 0
 ListedPlan = (p : Task) (m i : ℕ) → i < length (standings p m)
-    → p.order ⊆ slice_index_or (standings p m) i 0 → (l : List ℕ) × Plan p l
+    → p.order ⊆ slice_index (standings p m) i → (l : List ℕ) × Plan p l
 
 -- Whether a struck-out task has a plan is decided.
 abbrev pub Decided : Type 0

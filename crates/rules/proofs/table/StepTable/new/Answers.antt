@@ -1,6 +1,8 @@
-use Rattle.std.proofs.Common.{refl}
-use Rattle.rules.proofs.Tables.{none_clear}
+use Rattle.std.proofs.Common.{None, refl}
+use Rattle.std.specs.Prelude.{IfSome}
+use Rattle.std.proofs.lemmas.List.Elements.{All-replicate}
+use Rattle.rules.specs.Steps.{IsClear}
 use Rattle.rules.proofs.table.StepTable.new.Goals as goal
 
 pub invariant_of-result : goal.invariant_of-result
-invariant_of-result c = (refl, none_clear 64)
+invariant_of-result c = (refl, All-replicate (λ o. IfSome o IsClear) 64 None tt)
