@@ -2,7 +2,7 @@
 use Rattle.std.specs.Prelude.{◌≡◌, ℕ, List, length, Option, Result}
 use Rattle.rules.specs.Planning.{Task}
 use Rattle.waivers.specs.Searching.{Choice}
-use Rattle.deciders.specs.Reaching.{Same}
+use Rattle.deciders.specs.Reaching.{SameReach}
 use Rattle.frames.specs.declared.frame.Frame.{Frame}
 use Rattle.casefile.specs.declared.fault.LineFault.{LineFault}
 use Rattle.casefile.specs.declared.fault.ReadFault.{ReadFault}
@@ -23,7 +23,7 @@ module _ {D P : Type 0} where
 
   -- the decider at the desk reaches what it reached
   abbrev pub KeepsReach : (D → Task → ℕ → ℕ → ℕ → Type 0) → Desk D P → Desk D P → Type 0
-  KeepsReach reach d d' = Same (reach d.decider.now) (reach d'.decider.now)
+  KeepsReach reach d d' = SameReach (reach d.decider.now) (reach d'.decider.now)
 
   -- the stage of a text at the desk, where reading stands at this position after so many lines
   abbrev pub stage_at : ℕ → ℕ → Desk D P → Stage D

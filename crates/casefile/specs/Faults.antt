@@ -34,7 +34,8 @@ finder_adds (finder_fault.ListFull s) = Some (Set s)
 -- what is reported of each fault of a line
 abbrev pub report_of : LineFault → FaultReport
 report_of (Frame e) = record { refusal = fault_number e; layer = layers.Reader; added = None }
-report_of (Case r) = record { refusal = refusals.number r; layer = layers.Case; added = None }
+report_of (Case r) =
+    record { refusal = refusals.refusal_number r; layer = layers.Case; added = None }
 report_of (Finder e) =
     record { refusal = finder_number e; layer = finder_layer e; added = finder_adds e }
 

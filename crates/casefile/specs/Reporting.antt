@@ -2,7 +2,7 @@
 use Rattle.std.specs.Prelude.{◌≡◌, ℕ, ◌+◌, ◌<◌, ◌≤◌, List, length, take, Some, None, Ok, Err, Option, Result}
 use Rattle.rules.specs.Planning.{Task}
 use Rattle.deciders.specs.declared.row.Row.{Row}
-use Rattle.deciders.specs.Reaching.{Same}
+use Rattle.deciders.specs.Reaching.{SameReach}
 use Rattle.waivers.specs.Searching.{Choice}
 use Rattle.frames.specs.Reports.{accepted_bytes, found_bytes, Printed}
 use Rattle.frames.specs.Texts.{LineAt}
@@ -62,7 +62,7 @@ pub record Read {D : Type 0} (c : Choice) (reach : D → Task → ℕ → ℕ �
   pub counted : y.lines ≡ x.lines + 1
   pub asks :
       Asks c (stage_reach reach x) m line kind x.case answer y.case x.sheet x.book y.sheet y.book
-  pub reaches : Same (reach x.decider) (reach y.decider)
+  pub reaches : SameReach (reach x.decider) (reach y.decider)
   pub reported : bytes ≡ reply_bytes kind y.lines answer y.book
 
 -- what reading the next line of a text comes to (buf and buf': the report buffer before and after)

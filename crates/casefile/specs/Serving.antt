@@ -54,7 +54,8 @@ pub record RepliesToCall (C : Result Unit Refusal → State → Type 0) (r : Res
 
 -- find is called, and its answer is passed on
 pub record RepliesToFind (c : Choice) (R : ℕ → Type 0) (m : ℕ) (k : State)
-    (r : Result Reply LineFault) (k' : State) (s : List Row) (b : List ℕ) (s' : List Row) (b' : List ℕ) : Type 0 where
+    (r : Result Reply LineFault) (k' : State) (s : List Row) (b : List ℕ)
+    (s' : List Row) (b' : List ℕ) : Type 0 where
   pub answer : Result (ℕ × ℕ × ℕ) FinderFault
   pub finds : Finds c R m k s b (record { result = answer; sheet = s'; book = b' }) k'
   pub reply : r ≡ reply_to_find answer

@@ -4,7 +4,7 @@ use Rattle.rules.specs.declared.refusal.Refusal.{Refusal}
 use Rattle.rules.specs.Sets.{Meets}
 use Rattle.rules.specs.Planning.{Task, Solvable}
 use Rattle.rules.specs.Waivers.{Good, Hits}
-use Rattle.rules.specs.Refusals.{after, first_refusal}
+use Rattle.rules.specs.Refusals.{unless_refused, first_refusal}
 use Rattle.rules.proofs.Groups.{duality}
 use Rattle.deciders.specs.declared.row.Row.{Row}
 use Rattle.deciders.specs.declared.answer.DeciderFault.TheVariants.{BeyondReach}
@@ -31,26 +31,26 @@ use Rattle.cases.proofs.Staying.{replay_more}
 -- ---- a call that the case refuses or makes, without a search
 
 module _ (k k' : State) (e : Entry) (o : Result Unit Refusal) (f : State → State) (refuses : call_refusal k.plain e.asked ≡ of_case o)
-    (rules : effect_of e.asked e.answered k.plain ≡ (f k).plain) (is : k' ≡ after o f k) where
+    (rules : effect_of e.asked e.answered k.plain ≡ (f k).plain) (is : k' ≡ unless_refused o f k) where
   -- the plain case after it is what the replay says
   state_by : k'.plain ≡ plain_after k.plain e
   state_by = ap (λ (n : State). n.plain) is ∙ go o refl
     where
-      go : (q : Result Unit Refusal) → o ≡ q → (after o f k).plain ≡ plain_after k.plain e
+      go : (q : Result Unit Refusal) → o ≡ q → (unless_refused o f k).plain ≡ plain_after k.plain e
       go (Ok u) same =
-          ap (λ (q : Result Unit Refusal). (after q f k).plain) same ∙ sym rules
-          ∙ sym (ap (λ (q : Result Unit FinderFault). after q (effect_of e.asked e.answered) k.plain) (refuses ∙ ap of_case same))
+          ap (λ (q : Result Unit Refusal). (unless_refused q f k).plain) same ∙ sym rules
+          ∙ sym (ap (λ (q : Result Unit FinderFault). unless_refused q (effect_of e.asked e.answered) k.plain) (refuses ∙ ap of_case same))
       go (Err r) same =
-          ap (λ (q : Result Unit Refusal). (after q f k).plain) same
-          ∙ sym (ap (λ (q : Result Unit FinderFault). after q (effect_of e.asked e.answered) k.plain) (refuses ∙ ap of_case same))
+          ap (λ (q : Result Unit Refusal). (unless_refused q f k).plain) same
+          ∙ sym (ap (λ (q : Result Unit FinderFault). unless_refused q (effect_of e.asked e.answered) k.plain) (refuses ∙ ap of_case same))
 
   -- and each listed group is one of it
   listed_by : (o ≡ Ok tt → Listed (known_of (f k))) → Listed (known_of k) → Listed (known_of k')
   listed_by made before = go o refl
     where
       go : (q : Result Unit Refusal) → o ≡ q → Listed (known_of k')
-      go (Ok u) same = subst (λ (n : State). Listed (known_of n)) (sym (is ∙ ap (λ (q : Result Unit Refusal). after q f k) same)) (made same)
-      go (Err r) same = subst (λ (n : State). Listed (known_of n)) (sym (is ∙ ap (λ (q : Result Unit Refusal). after q f k) same)) before
+      go (Ok u) same = subst (λ (n : State). Listed (known_of n)) (sym (is ∙ ap (λ (q : Result Unit Refusal). unless_refused q f k) same)) (made same)
+      go (Err r) same = subst (λ (n : State). Listed (known_of n)) (sym (is ∙ ap (λ (q : Result Unit Refusal). unless_refused q f k) same)) before
 
 -- whether a slip is drawn is whether the draw is refused
 draw_refusal_by : (o : Result Unit Refusal) (slip : SlipData) → draw_refusal (first_refusal o (Ok slip)) ≡ o
@@ -100,7 +100,7 @@ module _ (c : Choice) (R : Task → ℕ → ℕ → ℕ → Type 0) (m : ℕ) (k
       → Makes c R m k (Finding s b) a k' → Kept
   finds_keep (Err e) q (is, same) makes = record {
     makes = makes;
-    state = ap (λ (n : State). n.plain) same ∙ sym (ap (λ r. after r (effect_of (Finding s b) a) k.plain) q);
+    state = ap (λ (n : State). n.plain) same ∙ sym (ap (λ r. unless_refused r (effect_of (Finding s b) a) k.plain) q);
     refusal =
         ap (λ (n : FindAnswer). find_refusal n.result) is
         ∙ refusing (case_refusal k.plain (Finding s b)) (size_refusal (length s) (length b)) e q (λ f. find_refusal (Err f) ≡ Err f) (λ r. refl) (λ f. refl)
@@ -112,7 +112,7 @@ module _ (c : Choice) (R : Task → ℕ → ℕ → ℕ → Type 0) (m : ℕ) (k
   }
   finds_keep (Ok u) q h makes = record {
     makes = makes;
-    state = h.plain ∙ sym (ap (λ r. after r (effect_of (Finding s b) a) k.plain) q);
+    state = h.plain ∙ sym (ap (λ r. unless_refused r (effect_of (Finding s b) a) k.plain) q);
     refusal = ap find_refusal h.answer ∙ no_refusal h.found h.searches.ended ∙ sym q;
     promise = subst (λ (r : Result (ℕ × ℕ × ℕ) FinderFault). FoundTruly In m k.plain.task k'.groups a.book r) (sym h.answer)
         (truly h.found h.searches.ended (roomy (case_refusal k.plain (Finding s b)) (length s) (length b) q) h.book

@@ -4,7 +4,7 @@ use Rattle.std.proofs.lemmas.Bool.{and_parts}
 use Rattle.std.specs.Option.{option_eq}
 use Rattle.rules.specs.declared.refusal.Refusal.{Refusal}
 use Rattle.rules.specs.declared.refusal.Refusal.TheVariants.{Unopened, SlipOut, NoFinding, WrongSlip}
-use Rattle.rules.specs.Refusals.{first_refusal, after}
+use Rattle.rules.specs.Refusals.{first_refusal, unless_refused}
 use Rattle.deciders.specs.declared.limits.SizeFault.{SizeFault}
 use Rattle.waivers.specs.declared.fault.FinderFault.{FinderFault}
 use Rattle.waivers.specs.declared.fault.FinderFault.TheVariants.{Case, Size}
@@ -47,7 +47,7 @@ out_refuses p out = go (eqb p.task.n 0)
 
 -- what is refused changes nothing
 pub refused_stays : (p : Plain) (e : Entry) → Refuses (call_refusal p e.asked) → plain_after p e ≡ p
-refused_stays p e (f, is) = ap (λ (r : Result Unit FinderFault). after r (effect_of e.asked e.answered) p) is
+refused_stays p e (f, is) = ap (λ (r : Result Unit FinderFault). unless_refused r (effect_of e.asked e.answered) p) is
 
 pub of_case_refuses : (r : Result Unit Refusal) → Refuses r → Refuses (of_case r)
 of_case_refuses r (e, is) = (Case e, ap of_case is)
@@ -115,7 +115,7 @@ drawn_taken k k' slip d =
     let (made, is) = made_by (case_refusal p Drawing) p slip d.answer in
     let (usable, own) = both_made (usable_refusal p) _ made in
     let (opened, out) = opened_by (eqb p.task.n 0) _ usable in
-    let after_it : k' ≡ state_with_slip true k = d.after ∙ ap (λ (o : Result Unit Refusal). after o (state_with_slip true) k) made in
+    let after_it : k' ≡ state_with_slip true k = d.after ∙ ap (λ (o : Result Unit Refusal). unless_refused o (state_with_slip true) k) made in
     let here : case_refusal (state_with_slip true k).plain (Signing (slip_of p)) ≡ Ok tt =
     taken_by (eqb p.task.n 0) (eqb p.number p.number) (option_eq eqb p.finding (Some (unwrap_or p.finding 0))) opened (same_number p.number) (found_by p.finding own) in
     subst (λ (n : State). case_refusal n.plain (Signing slip) ≡ Ok tt) (sym after_it)

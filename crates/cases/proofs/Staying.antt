@@ -3,7 +3,7 @@ use Rattle.std.proofs.Common.{◌≡◌, Bool, true, false, cond, eqb, List, [],
 use Rattle.rules.specs.declared.refusal.Refusal.{Refusal}
 use Rattle.rules.specs.declared.refusal.Refusal.TheVariants.{Unopened, AlreadyOpen, SlipOut}
 use Rattle.rules.specs.Planning.{Task}
-use Rattle.rules.specs.Refusals.{first_refusal, after}
+use Rattle.rules.specs.Refusals.{first_refusal, unless_refused}
 use Rattle.deciders.specs.Sizes.{size_refusal}
 use Rattle.waivers.specs.declared.fault.FinderFault.{FinderFault}
 use Rattle.waivers.specs.Changes.{open_refusal}
@@ -30,7 +30,7 @@ open_refuses : (p : Plain) (n s o : _) → eqb p.task.n 0 ≡ false → Refuses 
 open_refuses p n s o is = (AlreadyOpen, ap (λ (b : Bool). first_refusal (cond b (Ok tt) (Err AlreadyOpen)) (open_refusal n s o)) is)
 
 -- sign and tear are refused, or take the slip in
-decided : (p : Plain) (f : Plain → Plain) (r : Result Unit FinderFault) → (f p).slip_out ≡ false → (after r f p).slip_out ≡ true → after r f p ≡ p
+decided : (p : Plain) (f : Plain → Plain) (r : Result Unit FinderFault) → (f p).slip_out ≡ false → (unless_refused r f p).slip_out ≡ true → unless_refused r f p ≡ p
 decided p f (Ok u) is out = true_false (sym out ∙ is)
 decided p f (Err e) is out = refl
 
@@ -54,12 +54,12 @@ module _ (p : Plain) (out : p.slip_out ≡ true) where
 
 -- ---- a slip is out only of an open case
 
-still_in : (p : Plain) (f : Plain → Plain) (r : Result Unit FinderFault) → p.slip_out ≡ false → (f p).slip_out ≡ false → (after r f p).slip_out ≡ false
+still_in : (p : Plain) (f : Plain → Plain) (r : Result Unit FinderFault) → p.slip_out ≡ false → (f p).slip_out ≡ false → (unless_refused r f p).slip_out ≡ false
 still_in p f (Ok u) inside made = made
 still_in p f (Err e) inside made = inside
 
 -- what is taken by a draw is the task as it is
-same_task : (p : Plain) (f : Plain → Plain) (r : Result Unit FinderFault) → (f p).task ≡ p.task → (after r f p).task ≡ p.task
+same_task : (p : Plain) (f : Plain → Plain) (r : Result Unit FinderFault) → (f p).task ≡ p.task → (unless_refused r f p).task ≡ p.task
 same_task p f (Ok u) is = is
 same_task p f (Err e) is = refl
 
@@ -121,6 +121,6 @@ hand_stays p x r (Some slip) same taken =
     let is = taken_slip p slip taken in
     subst (λ (q : Plain). InHand q (Some slip)) (sym (stays p is.out (λ out. is.opened) x r (out_after (call_refusal p x) same is.out))) taken
   where
-    out_after : (o : Result Unit FinderFault) → (effect_of x r p).slip_out ≡ p.slip_out → p.slip_out ≡ true → (after o (effect_of x r) p).slip_out ≡ true
+    out_after : (o : Result Unit FinderFault) → (effect_of x r p).slip_out ≡ p.slip_out → p.slip_out ≡ true → (unless_refused o (effect_of x r) p).slip_out ≡ true
     out_after (Ok u) e out = e ∙ out
     out_after (Err f) e out = out

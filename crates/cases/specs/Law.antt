@@ -4,7 +4,7 @@ use Rattle.rules.specs.Sets.{size}
 use Rattle.rules.specs.Planning.{Task, Plan, strike, Solvable}
 use Rattle.rules.specs.Waivers.{Good, Hits}
 use Rattle.deciders.specs.declared.answer.DeciderFault.TheVariants.{BeyondReach}
-use Rattle.deciders.specs.Reaching.{Same}
+use Rattle.deciders.specs.Reaching.{SameReach}
 use Rattle.waivers.specs.declared.fault.FinderFault.{FinderFault}
 use Rattle.waivers.specs.declared.fault.FinderFault.TheVariants.{Case, Size, NoWaiver, Decider, ListFull}
 use Rattle.waivers.specs.Known.{Listed}
@@ -81,7 +81,7 @@ pub data Runs {D : Type 0} (c : Choice) (reach : D → Task → ℕ → ℕ → 
   more : {es : List Entry} {d : D} {k : State} → Runs c reach m first es d k
       → (e : Entry) (d' : D) (k' : State)
       → Keeps c (reach d) m (after_calls es) (after_calls (es ++ e ∷ [])) k e.asked e.answered k'
-      → Same (reach d) (reach d')
+      → SameReach (reach d) (reach d')
       → Runs c reach m first (es ++ e ∷ []) d' k'
 
 -- The law: each call kept it on the case as it then stood, and at the end the case holds the plain

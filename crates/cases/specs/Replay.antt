@@ -1,7 +1,7 @@
 -- The plain case over lists of calls: it is fed the calls and what they answered.
 use Rattle.std.specs.Prelude.{ℕ, true, false, List, [], ◌∷◌, Ok, Err, Result}
 use Rattle.rules.specs.declared.refusal.Refusal.{Refusal}
-use Rattle.rules.specs.Refusals.{after}
+use Rattle.rules.specs.Refusals.{unless_refused}
 use Rattle.waivers.specs.declared.fault.FinderFault.{FinderFault}
 use Rattle.waivers.specs.declared.fault.FinderFault.TheVariants.{Case, Size}
 use Rattle.cases.specs.declared.slip.SlipData.{SlipData}
@@ -46,7 +46,7 @@ effect_of (Tearing slip) r p = with_slip false p
 
 -- the plain case after a call; a refused one changes nothing
 abbrev pub plain_after : Plain → Entry → Plain
-plain_after p e = after (call_refusal p e.asked) (effect_of e.asked e.answered) p
+plain_after p e = unless_refused (call_refusal p e.asked) (effect_of e.asked e.answered) p
 
 -- the plain case after a list of calls with their answers
 abbrev pub replay : Plain → List Entry → Plain

@@ -2,7 +2,7 @@
 
 ghost use Rattle.std.specs.Prelude.{◌≡◌, ℕ, length, Ok, IfOk, IfErr};
 ghost use Rattle.rules.specs.Planning.{Solvable};
-ghost use Rattle.deciders.specs.Reaching.{Same};
+ghost use Rattle.deciders.specs.Reaching.{SameReach};
 ghost use Rattle.waivers.specs.Known.{Listed};
 ghost use Rattle.cases.specs.Calls.{Signing, Tearing};
 ghost use Rattle.cases.specs.Refusing.{opened_refusal, usable_refusal, case_refusal};
@@ -233,7 +233,7 @@ impl Case {
             D.MARK self.old sheet.old book.old
             (record { result = result; sheet = sheet.new; book = book.new }) self.new }
         ensures listed { Listed (known_of self.new) }
-        ensures same { Same (D.reach decider.old) (D.reach decider.new) }
+        ensures same { SameReach (D.reach decider.old) (D.reach decider.new) }
     {
         self.check_usable()?;
         check_sizes(sheet.len(), book.len())?;

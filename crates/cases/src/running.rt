@@ -1,7 +1,7 @@
 //! Lists of calls, made one after another on a fresh case.
 
 ghost use Rattle.std.specs.Prelude.{◌≡◌, List, Some, MatchResult, IfOk};
-ghost use Rattle.deciders.specs.Reaching.{Same};
+ghost use Rattle.deciders.specs.Reaching.{SameReach};
 ghost use Rattle.waivers.specs.Known.{Listed};
 ghost use Rattle.cases.specs.State.{known_of};
 ghost use Rattle.cases.specs.Calls.{Entry, entry_of, Recorded};
@@ -108,7 +108,7 @@ fn make<D: Decider, P: Picker>(
         × Makes (P.choice picker.now) (D.reach decider.old) D.MARK
         case.old e.asked e.answered case.new }
     ensures in_hand { InHand case.new.plain result.1 }
-    ensures same { Same (D.reach decider.old) (D.reach decider.new) }
+    ensures same { SameReach (D.reach decider.old) (D.reach decider.new) }
 {
     match call {
         Call::Open {
@@ -161,7 +161,7 @@ pub fn run<D: Decider, P: Picker>(
         × Law (P.choice picker.now) D.reach D.MARK decider.old es decider.new r.case)
         (λ e. (e.value ≡ calls) × (decider.new ≡ decider.old)) }
     ensures slip { IfOk result (λ r. InHand r.case.plain r.slip) }
-    ensures same { Same (D.reach decider.old) (D.reach decider.new) }
+    ensures same { SameReach (D.reach decider.old) (D.reach decider.new) }
 {
     let (Ok(mut case), Ok(mut answers)) = (Case::new(heap), Vec::with_capacity(heap, calls.len()))
     else {

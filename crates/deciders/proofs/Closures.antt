@@ -5,7 +5,7 @@ use Rattle.std.proofs.lemmas.Bool.{cases_eq}
 use Rattle.std.proofs.lemmas.Grind.{common_steps}
 use Rattle.rules.specs.Steps.{Step}
 use Rattle.rules.specs.Sets.{bit, ◌⊆◌, ◌∪◌, ◌∖◌}
-use Rattle.rules.specs.Planning.{Task, done, Leads, place_without, step_without, gone, strike}
+use Rattle.rules.specs.Planning.{Task, result_of, Leads, place_without, step_without, struck_facts, strike}
 use Rattle.rules.proofs.Sets.{bits, sub_le, same_facts, inside_dec}
 use Rattle.rules.proofs.Tables.{all_gives}
 use Rattle.rules.proofs.Plans.{some_without}
@@ -109,7 +109,7 @@ stays_inside : (p : Task) (c : ℕ) → Under p.steps c → (s : ℕ) (l : List 
 stays_inside p c u s [] sub o = λ f. omega (arith, sub f, o f)
 stays_inside p c u s (i ∷ l) sub (t, is, can, on) =
     let gives = u i t is (λ f. omega (arith, can f, sub f)) in
-    stays_inside p c u (done t s) l (λ f. omega (arith, bits, sub f, gives f)) on
+    stays_inside p c u (result_of t s) l (λ f. omega (arith, bits, sub f, gives f)) on
 
 pub screened_blocked : ScreenedBlocked
 screened_blocked p (c, x, out) l plan = out (stays_inside p c x.0.1 p.standing l x.0.0 plan)
@@ -136,17 +136,17 @@ module _ (g : ℕ) (ts : List (Option Step)) where
   )
 
 -- what is struck out stands all along: the order is inside that closure, or the screen blocks it
-pub struck_screens_out : (p : Task) (x : ℕ) (b : Bool) → IsTrue b ↔ ((c : ℕ) × Closure p.steps (p.standing ∪ gone p x) c × (p.order ⊆ c))
+pub struck_screens_out : (p : Task) (x : ℕ) (b : Bool) → IsTrue b ↔ ((c : ℕ) × Closure p.steps (p.standing ∪ struck_facts p x) c × (p.order ⊆ c))
     → IsTrue (not b) ↔ ScreenedOut (strike p x)
 struck_screens_out p x true test =
     let (c, closure, sub) = test.0 refl in
     let q : Task = strike p x in
-    let struck = closure_without (gone p x) p.steps p.standing c closure in (
+    let struck = closure_without (struck_facts p x) p.steps p.standing c closure in (
       (λ h. cc),
-      λ (d, other, out). absurd (outside_closure q.steps q.standing q.order d other out (c ∖ gone p x, struck, λ f. omega (arith, bits, sub f))),
+      λ (d, other, out). absurd (outside_closure q.steps q.standing q.order d other out (c ∖ struck_facts p x, struck, λ f. omega (arith, bits, sub f))),
     )
 struck_screens_out p x false test =
-    let g : ℕ = gone p x in
+    let g : ℕ = struck_facts p x in
     let (c, closure) = closure_exists p.steps (p.standing ∪ g) in (
       (λ h. (
         c ∖ g,

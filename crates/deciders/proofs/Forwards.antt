@@ -3,7 +3,7 @@ use Rattle.std.proofs.Common.{◌≡◌, ℕ, ◌≤◌, List, ◌++◌, reverse
 use Rattle.std.proofs.lemmas.List.{take_at, drop_at, length-reverse, length-take-le}
 use Rattle.rules.specs.Sets.{◌⊆◌}
 use Rattle.rules.specs.Planning.{Task, Plan, strike}
-use Rattle.rules.specs.Listing.{forward, Path}
+use Rattle.rules.specs.Listing.{progression, Path}
 use Rattle.rules.proofs.Plans.{→leads}
 use Rattle.rules.proofs.Forwards.{forward_walks, whole_blocked}
 use Rattle.deciders.specs.declared.answer.Verdict.{Verdict}
@@ -11,10 +11,10 @@ use Rattle.deciders.specs.declared.answer.Verdict.TheVariants as verdict
 use Rattle.deciders.specs.declared.answer.DeciderFault.{DeciderFault}
 use Rattle.deciders.specs.Answers.{Answers}
 use Rattle.deciders.proofs.Sizes.{sized→}
-use Rattle.deciders.specs.Search.Searches.{Finds}
+use Rattle.deciders.specs.Search.Searches.{SearchAnswers}
 use Rattle.deciders.specs.Reaches.{ForwardReach}
 
-pub forward_plan : (p : Task) (l : List ℕ) (e : ℕ) → Path forward p.steps p.standing l e → p.order ⊆ e → Plan p l
+pub forward_plan : (p : Task) (l : List ℕ) (e : ℕ) → Path progression p.steps p.standing l e → p.order ⊆ e → Plan p l
 forward_plan p l e path o = →leads p p.standing l e ((forward_walks p.steps p.standing l e).0 path) o
 
 -- the book once its first k places are reversed
@@ -27,7 +27,7 @@ reversed k book self fits is =
 -- what a forward search finds is what a decider has to answer, once the way is reversed
 module _ (p : Task) (x m mark : ℕ) (book book' : List ℕ) where
   abbrev FindsForward : Result Verdict DeciderFault → Type 0
-  FindsForward = Finds forward (λ s. (strike p x).order ⊆ s) (strike p x).steps (strike p x).standing x mark m book book'
+  FindsForward = SearchAnswers progression (λ s. (strike p x).order ⊆ s) (strike p x).steps (strike p x).standing x mark m book book'
 
   pub forward_plans : (k : ℕ) (self : List ℕ) → FindsForward (Ok (verdict.Solvable k)) → length book' ≡ length book
       → self ≡ reverse (take k book')

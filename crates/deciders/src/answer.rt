@@ -3,7 +3,7 @@
 ghost use Rattle.std.specs.Prelude.{◌≡◌};
 ghost use Rattle.rules.specs.declared.layer.Layer.TheVariants.{Decider as OfDecider};
 ghost use Rattle.rules.specs.Refusals.{layer_byte};
-ghost use Rattle.deciders.specs.Answers.{reported};
+ghost use Rattle.deciders.specs.Answers.{report_values};
 
 use rules::{Facts, Layer};
 
@@ -27,7 +27,7 @@ pub enum DeciderFault {
 impl DeciderFault {
     /// The fault's number in report lines.
     pub fn number(self) -> u8
-        ensures { result ≡ (reported self).0 }
+        ensures { result ≡ (report_values self).0 }
     {
         // The byte of a report line; a case that holds values has no discriminant to cast.
         match self {
@@ -38,7 +38,7 @@ impl DeciderFault {
     /// The layer that the fault comes from.
     pub fn layer(self) -> Layer
         ensures is { result ≡ OfDecider }
-        ensures byte { layer_byte result ≡ (reported self).1 }
+        ensures byte { layer_byte result ≡ (report_values self).1 }
     {
         match self {
             DeciderFault::BeyondReach { .. } => Layer::Decider,

@@ -2,9 +2,9 @@
 
 ghost use Rattle.std.specs.Prelude.{◌≡◌, ℕ, length};
 ghost use Rattle.rules.specs.Planning.{Task};
-ghost use Rattle.deciders.specs.Sizes.{Sized};
+ghost use Rattle.deciders.specs.Sizes.{WithinLimits};
 ghost use Rattle.deciders.specs.Answers.{Answers};
-ghost use Rattle.deciders.specs.Reaching.{Same};
+ghost use Rattle.deciders.specs.Reaching.{SameReach};
 
 use crate::answer::{DeciderFault, Verdict};
 use crate::row::Row;
@@ -36,8 +36,8 @@ pub trait Decider {
         ensures answer { let m = length sheet.old in
             Answers (reach self.old problem.now strike m (length book.old)) MARK
             problem.now strike m book.old book.new result }
-        ensures same { Same (reach self.new) (reach self.old) };
+        ensures same { SameReach (reach self.new) (reach self.old) };
 
     // what breaks a size limit is outside every reach
-    ghost within: { (d : Self) (p : Task) (x m b : ℕ) → reach d p x m b → Sized m b };
+    ghost within: { (d : Self) (p : Task) (x m b : ℕ) → reach d p x m b → WithinLimits m b };
 }

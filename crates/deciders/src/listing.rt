@@ -2,7 +2,7 @@
 
 ghost use Rattle.std.specs.Prelude.{◌≡◌, ℕ, ◌+◌, ◌<◌, ◌≤◌, [], length, take, drop, IfSome, IfNone, IfOk, OnErr, slice_set};
 ghost use Rattle.std.proofs.Props.{props};
-ghost use Rattle.rules.specs.Listing.{listed};
+ghost use Rattle.rules.specs.Listing.{is_listed};
 ghost use Rattle.deciders.specs.Search.Rows.{row as row_of, entries, Climbs};
 ghost use Rattle.deciders.specs.Search.Chains.{Indexed};
 
@@ -54,13 +54,13 @@ impl<'a> Listing<'a> {
     }
 
     /// Whether the set is listed.
-    pub(crate) fn has(&self, wanted: Facts) -> bool
-        ensures { result ≡ listed wanted (entries self.now.rows.now self.now.count) }
+    pub(crate) fn has(&self, entry: Facts) -> bool
+        ensures { result ≡ is_listed entry (entries self.now.rows.now self.now.count) }
     {
-        let mut number = self.index.first(wanted);
+        let mut number = self.index.first(entry);
         while self.index.is_row(number) {
             let row = self.index.row(number);
-            if self.rows[row].set == wanted {
+            if self.rows[row].set == entry {
                 return true;
             }
             number = self.index.next(row);

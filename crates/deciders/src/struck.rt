@@ -2,7 +2,7 @@
 
 ghost use Rattle.std.specs.Prelude.{◌≡◌};
 ghost use Rattle.rules.specs.Planning.{Consistent};
-ghost use Rattle.deciders.specs.Search.Struck.{struck_out};
+ghost use Rattle.deciders.specs.Search.Struck.{remainder};
 
 use arrayvec::ArrayVec;
 use rules::{Facts, Problem, Step, difference};
@@ -26,7 +26,7 @@ impl StruckOut {
     /// Becomes the problem without the facts of `strike` and the waived ones.
     // Filled in its place, in the memory of a search; making it anew and moving it took 14 ns a query.
     pub(crate) fn fill(&mut self, problem: &Problem, strike: Facts)
-        ensures struck { self.new ≡ struck_out problem.now strike }
+        ensures struck { self.new ≡ remainder problem.now strike }
         ensures consistent { Consistent problem.now }
     {
         let gone = strike | problem.waived;

@@ -3,7 +3,7 @@ use Rattle.std.proofs.Common.{◌≡◌, ℕ, zero, suc, ◌<◌, Bool, true, fa
 use lib.Count.{ones}
 use Rattle.rules.specs.Steps.{Step}
 use Rattle.rules.specs.Sets.{bit, ◌⊆◌, ◌∖◌, inside}
-use Rattle.rules.specs.Planning.{Task, held, done, Leads, Plan, strike, Blocked}
+use Rattle.rules.specs.Planning.{Task, step_at, result_of, Leads, Plan, strike, Blocked}
 use Rattle.rules.specs.Waivers.{waivable, Group, Hits, MinimumHittingSet}
 use Rattle.rules.specs.Listing.{standings}
 use Rattle.rules.specs.Examples.{C, Hopeless, WorkedExamples}
@@ -19,18 +19,18 @@ both false b h = elim h [ ]
 
 abbrev pub runs : Task → ℕ → List ℕ → Bool
 runs p s [] = inside p.order s
-runs p s (i ∷ l) = elim (held p i) [ None ↦ false | Some t ↦ inside t.needs s && runs p (done t s) l ]
+runs p s (i ∷ l) = elim (step_at p i) [ None ↦ false | Some t ↦ inside t.needs s && runs p (result_of t s) l ]
 
 runs→ : (p : Task) (s : ℕ) (l : List ℕ) → T (runs p s l) → Leads p s l
 runs→ p s [] h = inside→ p.order s h
-runs→ p s (i ∷ l) h = go (held p i) refl (λ t. runs→ p (done t s) l) h
+runs→ p s (i ∷ l) h = go (step_at p i) refl (λ t. runs→ p (result_of t s) l) h
   where
-    go : (o : Option Step) → held p i ≡ o → ((t : Step) → T (runs p (done t s) l) → Leads p (done t s) l)
-        → T (elim o [ None ↦ false | Some t ↦ inside t.needs s && runs p (done t s) l ])
-        → (t : Step) × (held p i ≡ Some t) × (t.needs ⊆ s) × Leads p (done t s) l
+    go : (o : Option Step) → step_at p i ≡ o → ((t : Step) → T (runs p (result_of t s) l) → Leads p (result_of t s) l)
+        → T (elim o [ None ↦ false | Some t ↦ inside t.needs s && runs p (result_of t s) l ])
+        → (t : Step) × (step_at p i ≡ Some t) × (t.needs ⊆ s) × Leads p (result_of t s) l
     go None e ih h = elim h [ ]
     go (Some t) e ih h =
-        let (a, b) = both (inside t.needs s) (runs p (done t s) l) h in (t, e, inside→ t.needs s a, ih t b)
+        let (a, b) = both (inside t.needs s) (runs p (result_of t s) l) h in (t, e, inside→ t.needs s a, ih t b)
 
 pub plan_by : (p : Task) (l : List ℕ) → T (runs p p.standing l) → Plan p l
 plan_by p l = runs→ p p.standing l

@@ -3,11 +3,11 @@ use Rattle.std.specs.Prelude.{◌≡◌, ◌≢◌, ℕ, ◌^◌, ◌<◌, ◌�
 use Rattle.std.specs.Prelude.{List, length, All, EachIndex, slice_index, slice_set}
 use Rattle.rules.specs.Steps.{Step}
 use Rattle.rules.specs.Sets.{◌⊆◌, ◌∖◌, Meets, size}
-use Rattle.rules.specs.Planning.{Task, held, done, Plan, Walk, strike, Solvable, Blocked}
+use Rattle.rules.specs.Planning.{Task, step_at, result_of, Plan, Walk, strike, Solvable, Blocked}
 use Rattle.rules.specs.Setters.{with_standing, with_order, with_steps}
 use Rattle.rules.specs.Waivers.{waivable, Good, Group, MinimalGroup, LargestBlocked}
 use Rattle.rules.specs.Waivers.{MinimumHittingSet}
-use Rattle.rules.specs.Listing.{Successor, listing, Whole, Path, forward, standings}
+use Rattle.rules.specs.Listing.{Successor, listing, Whole, Path, progression, standings}
 
 -- ---- what never blocks
 
@@ -27,7 +27,7 @@ OrderingLess = (p : Task) (o o' x : ℕ) (l : List ℕ) → o ⊆ o'
 
 -- A step put into an empty place keeps every plan.
 abbrev pub AdditionalStep : Type 0
-AdditionalStep = (p : Task) (i : ℕ) (t : Step) (x : ℕ) (l : List ℕ) → held p i ≡ None
+AdditionalStep = (p : Task) (i : ℕ) (t : Step) (x : ℕ) (l : List ℕ) → step_at p i ≡ None
     → Plan (strike p x) l → Plan (strike (with_steps p (slice_set p.steps i (Some t))) x) l
 
 -- Emptying a place makes no new plan.
@@ -38,8 +38,9 @@ Emptying = (p : Task) (i x : ℕ) (l : List ℕ)
 -- What is blocked stays blocked after a step is done for good whose needs outside the waived facts
 -- stand.
 abbrev pub Doing : Type 0
-Doing = (p : Task) (i : ℕ) (t : Step) (x : ℕ) → held p i ≡ Some t → t.needs ∖ p.waived ⊆ p.standing
-    → Blocked p x → Blocked (with_standing p (done t p.standing)) x
+Doing = (p : Task) (i : ℕ) (t : Step) (x : ℕ)
+    → step_at p i ≡ Some t → t.needs ∖ p.waived ⊆ p.standing
+    → Blocked p x → Blocked (with_standing p (result_of t p.standing)) x
 
 -- A plan is a walk to a standing that contains the order.
 abbrev pub PlansWalk : Type 0
@@ -110,12 +111,12 @@ ListingEnds = (f : Successor) (ts : List (Option Step)) (start b : ℕ)
 -- What the forward listing reaches is what can be done.
 abbrev pub ForwardWalks : Type 0
 ForwardWalks = (ts : List (Option Step)) (s : ℕ) (l : List ℕ) (e : ℕ)
-    → Path forward ts s l e ↔ Walk ts s l e
+    → Path progression ts s l e ↔ Walk ts s l e
 
 -- A whole forward listing in which the order stands nowhere means that no plan of any length
 -- exists.
 abbrev pub WholeBlocked : Type 0
-WholeBlocked = (p : Task) (m : ℕ) → Whole forward p.steps p.standing m
+WholeBlocked = (p : Task) (m : ℕ) → Whole progression p.steps p.standing m
     → EachIndex (standings p m) (λ i. ¬ (p.order ⊆ slice_index (standings p m) i))
     → (l : List ℕ) → ¬ Plan p l
 

@@ -3,7 +3,7 @@
 ghost use Rattle.std.specs.Prelude.{◌≡◌, ℕ, Ok, Err, IfOk, IfErr};
 ghost use Rattle.rules.specs.Sets.{inside};
 ghost use Rattle.rules.specs.Steps.{step_of, step_refusal};
-ghost use Rattle.rules.specs.Planning.{done, step_without};
+ghost use Rattle.rules.specs.Planning.{result_of, step_without};
 
 use crate::facts::{Facts, difference, is_subset, meets};
 use crate::refusal::Refusal;
@@ -60,7 +60,7 @@ impl Step {
 
     /// The standing after the step is done.
     pub fn result(&self, standing: Facts) -> Facts
-        ensures { result ≡ done self.now standing }
+        ensures { result ≡ result_of self.now standing }
     {
         difference(standing, self.takes) | self.gives
     }

@@ -1,7 +1,7 @@
 //! The 64 step places of a case.
 
 ghost use Rattle.std.specs.Prelude.{◌≡◌, length, replicate, Some, None, slice_index_or, slice_set};
-ghost use Rattle.rules.specs.Refusals.{after};
+ghost use Rattle.rules.specs.Refusals.{unless_refused};
 ghost use Rattle.rules.specs.Places.{AllClear, put_refusal, clear_refusal};
 
 use crate::refusal::Refusal;
@@ -56,7 +56,8 @@ impl StepTable {
     /// Fills an empty place. The other 63 places keep their steps. Refused: `NoSuchPlace`, `PlaceTaken`.
     pub fn put(&mut self, place: u8, step: Step) -> Result<(), Refusal>
         ensures answer { result ≡ put_refusal self.old place }
-        ensures after { self.new ≡ after result (λ ts. slice_set ts place (Some step)) self.old }
+        ensures after { self.new
+            ≡ unless_refused result (λ ts. slice_set ts place (Some step)) self.old }
     {
         // that the step gives nothing that it takes is known once it is opened
         let _ = &step.gives;
@@ -73,7 +74,7 @@ impl StepTable {
     /// Empties a place that holds a step. The other 63 places keep their steps. Refused: `NoSuchPlace`, `PlaceEmpty`.
     pub fn clear(&mut self, place: u8) -> Result<(), Refusal>
         ensures answer { result ≡ clear_refusal self.old place }
-        ensures after { self.new ≡ after result (λ ts. slice_set ts place None) self.old }
+        ensures after { self.new ≡ unless_refused result (λ ts. slice_set ts place None) self.old }
     {
         if place >= PLACES {
             return Err(Refusal::NoSuchPlace);

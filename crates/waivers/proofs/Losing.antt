@@ -3,12 +3,12 @@ use Rattle.std.proofs.Common.{◌≡◌, ◌≢◌, AllPairs, ℕ, suc, ◌+◌,
 use Rattle.std.proofs.lemmas.List.{get_or_default}
 use Rattle.std.specs.List.{list_any}
 use Rattle.rules.specs.Sets.{◌∖◌}
-use Rattle.rules.specs.Listing.{listed, adding}
-use Rattle.rules.proofs.Listing.{At, Apart, apart_adding, from_adding}
+use Rattle.rules.specs.Listing.{is_listed, with_entry}
+use Rattle.rules.proofs.Listing.{At, Apart, apart_with_entry, from_with_entry}
 
 -- ---- a search through the list
 
-pub listed_is : (s : ℕ) (l : List ℕ) → list_any (λ y. eqb y s) l ≡ listed s l
+pub listed_is : (s : ℕ) (l : List ℕ) → list_any (λ y. eqb y s) l ≡ is_listed s l
 listed_is s [] = refl
 listed_is s (a ∷ l) = grind (arith, listed_is s l)
 
@@ -22,23 +22,23 @@ pairs_apart gs apart i j d lt le = rw (get_or_default gs i d 0 (omega arith), ge
 
 -- the list gs, and after it the groups hs without the facts of s
 abbrev losing_on : ℕ → List ℕ → List ℕ → List ℕ
-losing_on s gs hs = fold (λ hs h. adding (h ∖ s) hs) gs hs
+losing_on s gs hs = fold (λ hs h. with_entry (h ∖ s) hs) gs hs
 
 pub losing_apart : (s : ℕ) (gs hs : List ℕ) → Apart gs → Apart (losing_on s gs hs)
 losing_apart s gs [] apart = apart
-losing_apart s gs (h ∷ hs) apart = losing_apart s (adding (h ∖ s) gs) hs (apart_adding (h ∖ s) gs apart)
+losing_apart s gs (h ∷ hs) apart = losing_apart s (with_entry (h ∖ s) gs) hs (apart_with_entry (h ∖ s) gs apart)
 
-adding_few : (s : ℕ) (l : List ℕ) → length (adding s l) ≤ length l + 1
-adding_few s l = grind (arith, length-append {A = ℕ})
+with_entry_few : (s : ℕ) (l : List ℕ) → length (with_entry s l) ≤ length l + 1
+with_entry_few s l = grind (arith, length-append {A = ℕ})
 
 pub losing_few : (s : ℕ) (gs hs : List ℕ) → length (losing_on s gs hs) ≤ length gs + length hs
 losing_few s gs [] = omega arith
-losing_few s gs (h ∷ hs) = omega (arith, losing_few s (adding (h ∖ s) gs) hs, adding_few (h ∖ s) gs)
+losing_few s gs (h ∷ hs) = omega (arith, losing_few s (with_entry (h ∖ s) gs) hs, with_entry_few (h ∖ s) gs)
 
 pub losing_from : (P : ℕ → Type 0) (s : ℕ) (gs hs : List ℕ) → ((a : ℕ) → At a gs → P a) → ((i : ℕ) → i < length hs → P (get_or hs i 0 ∖ s))
     → (a : ℕ) → At a (losing_on s gs hs) → P a
 losing_from P s gs [] old new a at = old a at
 losing_from P s gs (h ∷ hs) old new a at =
-    losing_from P s (adding (h ∖ s) gs) hs
-    (λ b at'. elim (from_adding b (h ∖ s) gs at') [ inl was ↦ old b was | inr e ↦ subst P e (new 0 (omega arith)) ])
+    losing_from P s (with_entry (h ∖ s) gs) hs
+    (λ b at'. elim (from_with_entry b (h ∖ s) gs at') [ inl was ↦ old b was | inr e ↦ subst P e (new 0 (omega arith)) ])
     (λ i lt. new (suc i) (omega arith)) a at

@@ -5,11 +5,11 @@ use Rattle.rules.specs.declared.refusal.Refusal.{Refusal}
 use Rattle.rules.specs.declared.refusal.Refusal.TheVariants.{FactCount, UnknownFact, NoSuchPlace, PlaceEmpty, NeedMissing, WaivedFact}
 use Rattle.rules.specs.Sets.{◌∪◌, ◌∩◌, ◌∖◌, inside, below}
 use Rattle.rules.specs.Steps.{Step, step_of, step_refusal}
-use Rattle.rules.specs.Planning.{Task, held, done}
+use Rattle.rules.specs.Planning.{Task, step_at, result_of}
 use Rattle.rules.specs.Setters.{with_standing, with_order, with_steps, with_waived}
 use Rattle.rules.specs.Places.{put_refusal, clear_refusal}
 use Rattle.rules.specs.Refusals.{first_refusal}
-use Rattle.rules.specs.Listing.{adding}
+use Rattle.rules.specs.Listing.{with_entry}
 use Rattle.waivers.specs.declared.change.Change.{Change}
 use Rattle.waivers.specs.declared.change.Change.TheVariants as change
 use Rattle.waivers.specs.declared.change.Fate.{Fate}
@@ -42,16 +42,16 @@ refusal_of p (change.Put i needs gives takes) =
     (first_refusal (step_refusal gives takes) (put_refusal p.steps i))
 refusal_of p (change.Withdraw i) = clear_refusal p.steps i
 refusal_of p (change.Carry i) =
-    if nat_lt i 64 then ready_refusal p (held p i) else Err NoSuchPlace
+    if nat_lt i 64 then ready_refusal p (step_at p i) else Err NoSuchPlace
 refusal_of p (change.Order s) = first_refusal (names_refusal p s) (waived_refusal p s)
 refusal_of p (change.Cancel s) = names_refusal p s
 
 -- ---- what a change makes of the task
 
 -- the standing s after what a place holds is done in it
-abbrev pub done_by : Option Step → ℕ → ℕ
-done_by None s = s
-done_by (Some t) s = done t s
+abbrev pub standing_after : Option Step → ℕ → ℕ
+standing_after None s = s
+standing_after (Some t) s = result_of t s
 
 -- what each change makes of the task; a step is done for good with all that it takes and gives
 abbrev pub task_after : Change → Task → Task
@@ -60,7 +60,7 @@ task_after (change.Lapse s) p = with_standing p (p.standing ∖ s)
 task_after (change.Put i needs gives takes) p =
     with_steps p (slice_set p.steps i (Some (step_of needs gives takes)))
 task_after (change.Withdraw i) p = with_steps p (slice_set p.steps i None)
-task_after (change.Carry i) p = with_standing p (done_by (held p i) p.standing)
+task_after (change.Carry i) p = with_standing p (standing_after (step_at p i) p.standing)
 task_after (change.Order s) p = with_order p (p.order ∪ s)
 task_after (change.Cancel s) p = with_order p (p.order ∖ s)
 
@@ -78,7 +78,7 @@ fate_of (change.Cancel s) = Emptied
 
 -- each group in turn loses the facts of s, and is left out if it then equals one before it
 abbrev pub groups_without : ℕ → List ℕ → List ℕ
-groups_without s gs = fold (λ hs g. adding (g ∖ s) hs) [] gs
+groups_without s gs = fold (λ hs g. with_entry (g ∖ s) hs) [] gs
 
 -- the groups that are left
 abbrev pub groups_after : Fate → List ℕ → List ℕ

@@ -1,7 +1,7 @@
 //! The calls that only change what is planned over.
 
 ghost use Rattle.std.specs.Prelude.{◌≡◌};
-ghost use Rattle.rules.specs.Refusals.{after};
+ghost use Rattle.rules.specs.Refusals.{unless_refused};
 ghost use Rattle.waivers.specs.Changes.{names_refusal, refusal_of, task_after, fate_of};
 
 use rules::{Facts, PLACES, Problem, Refusal, Step, difference, facts_below, is_subset, meets};
@@ -56,7 +56,7 @@ pub(crate) fn check_names(problem: &Problem, set: Facts) -> Result<(), Refusal>
 fn grant(problem: &mut Problem, set: Facts) -> Result<(), Refusal>
     ensures answer { result ≡ refusal_of problem.old (Change.Grant «set») }
     ensures after { problem.new
-        ≡ after result (task_after (Change.Grant «set»)) problem.old }
+        ≡ unless_refused result (task_after (Change.Grant «set»)) problem.old }
 {
     check_names(problem, set)?;
     problem.standing.facts |= set;
@@ -67,7 +67,7 @@ fn grant(problem: &mut Problem, set: Facts) -> Result<(), Refusal>
 fn lapse(problem: &mut Problem, set: Facts) -> Result<(), Refusal>
     ensures answer { result ≡ refusal_of problem.old (Change.Lapse «set») }
     ensures after { problem.new
-        ≡ after result (task_after (Change.Lapse «set»)) problem.old }
+        ≡ unless_refused result (task_after (Change.Lapse «set»)) problem.old }
 {
     check_names(problem, set)?;
     problem.standing.facts = difference(problem.standing.facts, set);
@@ -84,7 +84,7 @@ fn put(
 ) -> Result<(), Refusal>
     ensures answer { result ≡ refusal_of problem.old (Change.Put place needs gives takes) }
     ensures after { problem.new
-        ≡ after result (task_after (Change.Put place needs gives takes)) problem.old }
+        ≡ unless_refused result (task_after (Change.Put place needs gives takes)) problem.old }
 {
     check_names(problem, needs | gives | takes)?;
     let step = Step::new(needs, gives, takes)?;
@@ -95,7 +95,7 @@ fn put(
 fn withdraw(problem: &mut Problem, place: u8) -> Result<(), Refusal>
     ensures answer { result ≡ refusal_of problem.old (Change.Withdraw place) }
     ensures after { problem.new
-        ≡ after result (task_after (Change.Withdraw place)) problem.old }
+        ≡ unless_refused result (task_after (Change.Withdraw place)) problem.old }
 {
     problem.table.clear(place)
 }
@@ -104,7 +104,7 @@ fn withdraw(problem: &mut Problem, place: u8) -> Result<(), Refusal>
 fn carry(problem: &mut Problem, place: u8) -> Result<(), Refusal>
     ensures answer { result ≡ refusal_of problem.old (Change.Carry place) }
     ensures after { problem.new
-        ≡ after result (task_after (Change.Carry place)) problem.old }
+        ≡ unless_refused result (task_after (Change.Carry place)) problem.old }
 {
     if place >= PLACES {
         return Err(Refusal::NoSuchPlace);
@@ -124,7 +124,7 @@ fn carry(problem: &mut Problem, place: u8) -> Result<(), Refusal>
 fn order(problem: &mut Problem, set: Facts) -> Result<(), Refusal>
     ensures answer { result ≡ refusal_of problem.old (Change.Order «set») }
     ensures after { problem.new
-        ≡ after result (task_after (Change.Order «set»)) problem.old }
+        ≡ unless_refused result (task_after (Change.Order «set»)) problem.old }
 {
     check_names(problem, set)?;
     if meets(set, problem.waived) {
@@ -138,7 +138,7 @@ fn order(problem: &mut Problem, set: Facts) -> Result<(), Refusal>
 fn cancel(problem: &mut Problem, set: Facts) -> Result<(), Refusal>
     ensures answer { result ≡ refusal_of problem.old (Change.Cancel «set») }
     ensures after { problem.new
-        ≡ after result (task_after (Change.Cancel «set»)) problem.old }
+        ≡ unless_refused result (task_after (Change.Cancel «set»)) problem.old }
 {
     check_names(problem, set)?;
     problem.order = difference(problem.order, set);
@@ -149,7 +149,7 @@ impl Change {
     /// Makes the change of a problem, or refuses it.
     pub(crate) fn make(self, problem: &mut Problem) -> Result<(), Refusal>
         ensures answer { result ≡ refusal_of problem.old self }
-        ensures after { problem.new ≡ after result (task_after self) problem.old }
+        ensures after { problem.new ≡ unless_refused result (task_after self) problem.old }
     {
         match self {
             Change::Grant(set) => grant(problem, set),

@@ -3,12 +3,12 @@ use Rattle.std.specs.Prelude.{◌≡◌, ℕ, ◌<◌, ◌≤◌, List, [], ◌�
 use Rattle.deciders.specs.declared.row.Row.{Row}
 
 -- what stands past the last row
-abbrev pub no_row : Row
-no_row = record { set = 0; parent = 0; place = 0 }
+abbrev pub zero_row : Row
+zero_row = record { set = 0; parent = 0; place = 0 }
 
 -- the row i of a sheet
 abbrev pub row : List Row → ℕ → Row
-row sheet i = slice_index_or sheet i no_row
+row sheet i = slice_index_or sheet i zero_row
 
 -- the sets of the first n rows
 abbrev pub entries : List Row → ℕ → List ℕ

@@ -16,8 +16,8 @@ abbrev pub steps_of : List Action → List (Option Step)
 steps_of ws = map (λ (w : Action). Some w.step) ws
 
 -- what is left of the task p without the facts of x
-abbrev pub struck_out : Task → ℕ → StruckOut
-struck_out p x = record {
+abbrev pub remainder : Task → ℕ → StruckOut
+remainder p x = record {
   standing = (strike p x).standing;
   order = (strike p x).order;
   actions = record { items = actions_of 0 (strike p x).steps };

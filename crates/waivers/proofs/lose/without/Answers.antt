@@ -1,6 +1,6 @@
 use Rattle.std.proofs.Common.{◌≡◌, [], take, ◌∙◌, arith}
 use Rattle.std.proofs.lemmas.Grind.{common_steps}
-use Rattle.rules.specs.Listing.{listed}
+use Rattle.rules.specs.Listing.{is_listed}
 use Rattle.waivers.proofs.Losing.{listed_is, losing_few}
 use Rattle.waivers.proofs.lose.without.Goals as goal
 
@@ -11,6 +11,6 @@ push-requires c =
 
 pub loop-group-preserved : goal.loop-group-preserved
 loop-group-preserved c =
-    let is : c.contains.result ≡ listed c.difference-group.result c.loop-group.left.items =
+    let is : c.contains.result ≡ is_listed c.difference-group.result c.loop-group.left.items =
     rw c.deref.ensures.0 at c.contains.ensures.value ∙ listed_is c.difference-group.result c.loop-group.left.items in
     grind (arith, common_steps)
