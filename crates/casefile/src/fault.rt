@@ -1,4 +1,5 @@
-//! Why a line of a case file is refused, why no line of a text is read, and why a text is not served.
+//! Why a line of a case file is refused, why no line of a text is read, and why a text is not
+//! served.
 
 ghost use Rattle.std.specs.Prelude.{◌≡◌};
 ghost use Rattle.casefile.specs.declared.fault.LineFault.TheVariants.{Frame as OfFrame, Case as OfCase, Finder as OfFinder};
@@ -97,8 +98,8 @@ impl ReadFault {
         }
     }
 
-    /// How many bytes the report line has that the fault leaves at the front of the buffer: 11 where the text is too long,
-    /// and 0 where the buffer is too short.
+    /// How many bytes the report line has that the fault leaves at the front of the buffer: 11
+    /// where the text is too long, and 0 where the buffer is too short.
     pub fn reported(&self) -> usize
         ensures { result ≡ report_length self.now }
     {
@@ -109,8 +110,8 @@ impl ReadFault {
     }
 }
 
-/// Writes the one report line of a text that is too long to the front of the buffer, and says how long it is. It is of no
-/// line, so kind and line are 0.
+/// Writes the one report line of a text that is too long to the front of the buffer, and says how
+/// long it is. It is of no line, so kind and line are 0.
 pub(crate) fn report_too_long(buffer: &mut [u8]) -> Option<usize>
     ensures { Printed too_long_bytes buffer.old buffer.new result }
 {

@@ -13,11 +13,12 @@ use std::marker::Model;
 /// The most bytes of a text.
 pub const MAX_TEXT: usize = 16384;
 
-/// The fewest bytes of a report buffer: those of the longest report line, with a plan of 4,095 places.
+/// The fewest bytes of a report buffer: those of the longest report line, with a plan of 4,095
+/// places.
 pub const MIN_REPORT: usize = 8209;
 
-/// Where reading a text stands: the position of the next line, and how many lines were read. Each line takes a byte at
-/// least, and a text has at most 16,384.
+/// Where reading a text stands: the position of the next line, and how many lines were read. Each
+/// line takes a byte at least, and a text has at most 16,384.
 #[derive(Clone, Copy)]
 pub struct Reading {
     position: usize,
@@ -48,12 +49,13 @@ impl Reading {
         }
     }
 
-    /// Reads the next line of the text, makes the call that it asks for, and writes its report line to the front of the
-    /// buffer, of which the rest stays. Says how many bytes the report line has, or that there is no further line. Of a text
-    /// that is too long no line is read, and the report line says so.
+    /// Reads the next line of the text, makes the call that it asks for, and writes its report line
+    /// to the front of the buffer, of which the rest stays. Says how many bytes the report line
+    /// has, or that there is no further line. Of a text that is too long no line is read, and the
+    /// report line says so.
     ///
-    /// Refused: `BufferTooShort`, where the buffer has fewer than 8,209 bytes, and then nothing is read or written;
-    /// `TextTooLong`, where the text has more than 16,384.
+    /// Refused: `BufferTooShort`, where the buffer has fewer than 8,209 bytes, and then nothing is
+    /// read or written; `TextTooLong`, where the text has more than 16,384.
     pub fn next<D: Decider, P: Picker>(
         &mut self,
         text: &[u8],

@@ -31,8 +31,8 @@ pub(crate) struct Answer {
     reply: Result<Reply, LineFault>,
 }
 
-/// What the lines of a case file work on: the case, the decider and the picker that it finds with, and the rows and the
-/// plan book for finding.
+/// What the lines of a case file work on: the case, the decider and the picker that it finds with,
+/// and the rows and the plan book for finding.
 pub struct Desk<'a, D, P> {
     pub case: &'a mut Case,
     pub decider: &'a mut D,
@@ -63,8 +63,8 @@ fn reply_to(made: Result<(), Refusal>) -> Result<Reply, LineFault>
 }
 
 impl<D: Decider, P: Picker> Desk<'_, D, P> {
-    /// Makes the call that a frame asks for. A refused call is answered by `LineFault::Case`, and a find without a set by
-    /// `LineFault::Finder`.
+    /// Makes the call that a frame asks for. A refused call is answered by `LineFault::Case`, and a
+    /// find without a set by `LineFault::Finder`.
     pub fn serve(&mut self, frame: &Frame) -> Result<Reply, LineFault>
         ensures same { KeepsLoans self.old self.new }
         ensures reach { KeepsReach D.reach self.old self.new }

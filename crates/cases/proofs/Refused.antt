@@ -1,6 +1,6 @@
 -- What a refusal, or none, says of the case that met a call.
 use Rattle.std.proofs.Common.{◌≡◌, ℕ, Bool, true, false, cond, ◌&&◌, T, eqb, Some, None, Ok, Err, Option, Result, unwrap_or, sym, refl, ap, ◌∙◌, subst, arith, eqb→eq}
-use Rattle.std.proofs.lemmas.Bool.{and_parts}
+use Rattle.std.proofs.lemmas.Bool.{and_parts, false≢true}
 use Rattle.std.specs.Option.{option_eq}
 use Rattle.rules.specs.declared.refusal.Refusal.{Refusal}
 use Rattle.rules.specs.declared.refusal.Refusal.TheVariants.{Unopened, SlipOut, NoFinding, WrongSlip}
@@ -17,7 +17,7 @@ use Rattle.cases.specs.Making.{Draws}
 use Rattle.cases.specs.Replay.{effect_of, plain_after}
 
 pub true_false : {A : Type 0} → true ≡ false → A
-true_false e = absurd (let z : ◌≡◌ {A = ℕ} 0 1 = cc in omega arith)
+true_false e = absurd (false≢true (sym e))
 
 -- no call is both made and refused
 pub made_refused : {A E B : Type 0} (a : A) (e : E) → ◌≡◌ {A = Result A E} (Err e) (Ok a) → B

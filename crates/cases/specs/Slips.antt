@@ -11,12 +11,11 @@ abbrev pub decision_of : Result Unit (SlipData × Refusal) → Result Unit Refus
 decision_of (Ok u) = Ok tt
 decision_of (Err (slip, e)) = Err e
 
+-- the case takes a slip that says this: it refuses neither to sign it nor to tear it
+abbrev pub Takes : Plain → SlipData → Type 0
+Takes p slip = case_refusal p (Signing slip) ≡ Ok tt
+
 -- The slip in hand is one that the case takes; where none is in hand, none is out.
 abbrev pub InHand : Plain → Option SlipData → Type 0
 InHand p None = p.slip_out ≡ false
-InHand p (Some slip) = case_refusal p (Signing slip) ≡ Ok tt
-
--- what is in hand is not a slip that says this
-abbrev pub SaysOther : SlipData → Option SlipData → Type 0
-SaysOther content None = Unit {0}
-SaysOther content (Some slip) = slip ≡ content → ⊥
+InHand p (Some slip) = Takes p slip

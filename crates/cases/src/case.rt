@@ -1,12 +1,12 @@
 //! A case: how it is made and opened, its calls and its plan check, and what a host may look at.
 
-ghost use Rattle.std.specs.Prelude.{◌≡◌, ℕ, length, Ok, IfOk, IfErr};
+ghost use Rattle.std.specs.Prelude.{◌≡◌, ℕ, length, Ok, IsOk, IfOk, IfErr};
 ghost use Rattle.rules.specs.Planning.{Solvable};
 ghost use Rattle.deciders.specs.Reaching.{SameReach};
 ghost use Rattle.waivers.specs.Known.{Listed};
 ghost use Rattle.cases.specs.Calls.{Signing, Tearing};
 ghost use Rattle.cases.specs.Refusing.{opened_refusal, usable_refusal, case_refusal};
-ghost use Rattle.cases.specs.Slips.{decision_of};
+ghost use Rattle.cases.specs.Slips.{decision_of, Takes};
 ghost use Rattle.cases.specs.State.{fresh, known_of, state_signed};
 ghost use Rattle.cases.specs.Finding.{Finds};
 ghost use Rattle.cases.specs.Checks.{PlanChecked};
@@ -20,10 +20,11 @@ use std::alloc::{AllocError, Global};
 use std::marker::Model;
 use waivers::{Change, FinderFault, KnownGroups};
 
-/// A studio's case: its number, its problem with the groups that are known of it, the set that find found last, and
-/// whether a slip is out. A case whose problem has no facts is unopened. What was found is a good set of the case as it stands,
-/// and each set in its list is a group of it.
-// The finding is an Option by a rule of the project, and the flag beside it, and no facts for unopened, are those of the plain case.
+/// A studio's case: its number, its problem with the groups that are known of it, the set that find
+/// found last, and whether a slip is out. A case whose problem has no facts is unopened. What was
+/// found is a good set of the case as it stands, and each set in its list is a group of it.
+// The finding is an Option by a rule of the project, and the flag beside it, and no facts for
+// unopened, are those of the plain case.
 #[derive(Drop)]
 pub struct Case {
     number: u32,
@@ -51,7 +52,8 @@ impl Model for Case {
 }
 
 impl Case {
-    /// A fresh case, unopened. It reserves the room for its group list, so that no later call needs memory.
+    /// A fresh case, unopened. It reserves the room for its group list, so that no later call needs
+    /// memory.
     ///
     /// Fails where there is no memory.
     pub fn new(heap: Global) -> Result<Case, AllocError>
@@ -73,8 +75,8 @@ impl Case {
         self.number
     }
 
-    /// The problem that is planned over: its number of facts (0 where the case is unopened), its sets, one bit a fact, and its
-    /// 64 places of steps.
+    /// The problem that is planned over: its number of facts (0 where the case is unopened), its
+    /// sets, one bit a fact, and its 64 places of steps.
     pub fn problem(&self) -> &Problem
         ensures { result.now ≡ self.now.plain.task }
     {
@@ -95,7 +97,8 @@ impl Case {
         self.slip_out
     }
 
-    /// The groups that are known of the case as it stands, one bit a fact, in the order in which they were found: 64 at most.
+    /// The groups that are known of the case as it stands, one bit a fact, in the order in which
+    /// they were found: 64 at most.
     pub fn groups(&self) -> &[Facts]
         ensures same { result.now ≡ self.now.groups }
         ensures listed { Listed (known_of self.now) }
@@ -126,8 +129,11 @@ impl Case {
         Ok(())
     }
 
-    /// Opens the case: sets its number, the number of facts, the standing and the order. Refused: `AlreadyOpen`, `FactCount`,
-    /// `UnknownFact`.
+    /// Opens the case: sets its number, the number of facts, the standing and the order. Refused:
+    /// `AlreadyOpen`, `FactCount`, `UnknownFact`.
+    ///
+    /// The host gives open cases different numbers: a slip is told by its case's number and its set,
+    /// and no case knows of another (docs/SLIPS.md).
     pub fn open(&mut self, number: u32, n: u8, standing: Facts, order: Facts) -> Result<(), Refusal>
         ensures { Opens number n standing order self.old result self.new }
     {
@@ -140,9 +146,11 @@ impl Case {
         Ok(())
     }
 
-    /// Makes a change of an opened case of which no slip is out. What was found before it is forgotten.
+    /// Makes a change of an opened case of which no slip is out. What was found before it is
+    /// forgotten.
     ///
-    /// Refused: `Unopened`, `SlipOut`, then as the change is. A refusal changes nothing, here and below.
+    /// Refused: `Unopened`, `SlipOut`, then as the change is. A refusal changes nothing, here and
+    /// below.
     pub fn change(&mut self, change: Change) -> Result<(), Refusal>
         ensures { Changes change self.old result self.new }
     {
@@ -166,8 +174,8 @@ impl Case {
         self.change(Change::Lapse(set))
     }
 
-    /// Puts a step of three sets into an empty place, numbered from 0 to 63. Refused: `Unopened`, `SlipOut`, `UnknownFact`,
-    /// `GivesAndTakes`, `NoSuchPlace`, `PlaceTaken`.
+    /// Puts a step of three sets into an empty place, numbered from 0 to 63. Refused: `Unopened`,
+    /// `SlipOut`, `UnknownFact`, `GivesAndTakes`, `NoSuchPlace`, `PlaceTaken`.
     pub fn put(
         &mut self,
         place: u8,
@@ -185,15 +193,16 @@ impl Case {
         })
     }
 
-    /// Empties a place that holds a step. Refused: `Unopened`, `SlipOut`, `NoSuchPlace`, `PlaceEmpty`.
+    /// Empties a place that holds a step. Refused: `Unopened`, `SlipOut`, `NoSuchPlace`,
+    /// `PlaceEmpty`.
     pub fn withdraw(&mut self, place: u8) -> Result<(), Refusal>
         ensures { Changes (Change.Withdraw place) self.old result self.new }
     {
         self.change(Change::Withdraw(place))
     }
 
-    /// Does a step for good, if its needs outside the waived facts stand. Refused: `Unopened`, `SlipOut`, `NoSuchPlace`,
-    /// `PlaceEmpty`, `NeedMissing`.
+    /// Does a step for good, if its needs outside the waived facts stand. Refused: `Unopened`,
+    /// `SlipOut`, `NoSuchPlace`, `PlaceEmpty`, `NeedMissing`.
     pub fn carry(&mut self, place: u8) -> Result<(), Refusal>
         ensures { Changes (Change.Carry place) self.old result self.new }
     {
@@ -214,13 +223,16 @@ impl Case {
         self.change(Change::Cancel(set))
     }
 
-    /// A smallest set of waivable facts that leaves a solvable case when struck out: the set, its size, and the length
-    /// of the plan that is then in the book. The case keeps the set as its finding. The size counts facts, the length places.
+    /// A smallest set of waivable facts that leaves a solvable case when struck out: the set, its
+    /// size, and the length of the plan that is then in the book. The case keeps the set as its
+    /// finding. The size counts facts, the length places.
     ///
-    /// Refused for the case (`FinderFault::Case`), or for sheet or book (`Size`), and then nothing changes. Ends without a set
-    /// by `NoWaiver`, `Decider` or `ListFull`: then the finding is forgotten, and the groups that were entered stay. In all ends
-    /// the rows are zero and the places of the book past the plan are 255.
-    // Decider, picker, sheet and book are loans of their own, as in the search; a tuple for the answer is a rule of the project.
+    /// Refused for the case (`FinderFault::Case`), or for sheet or book (`Size`), and then nothing
+    /// changes. Ends without a set by `NoWaiver`, `Decider` or `ListFull`: then the finding is
+    /// forgotten, and the groups that were entered stay. In all ends the rows are zero and the
+    /// places of the book past the plan are 255.
+    // Decider, picker, sheet and book are loans of their own, as in the search; a tuple for the
+    // answer is a rule of the project.
     pub fn find<D: Decider, P: Picker>(
         &mut self,
         decider: &mut D,
@@ -249,10 +261,11 @@ impl Case {
         }
     }
 
-    /// Draws a slip for the finding. While it is out, the case refuses every call but sign, tear and the plan check. Refused:
-    /// `Unopened`, `SlipOut`, `NoFinding`.
+    /// Draws a slip for the finding. While it is out, the case refuses every call but sign, tear
+    /// and the plan check. Refused: `Unopened`, `SlipOut`, `NoFinding`.
     pub fn draw(&mut self) -> Result<Slip, Refusal>
-        ensures { Draws self.old result self.new }
+        ensures draws { Draws self.old result self.new }
+        ensures taken { IfOk result (λ slip. Takes self.new.plain slip) }
     {
         self.check_usable()?;
         let finding = self.finding.filter(|set| *set != 0);
@@ -278,9 +291,10 @@ impl Case {
         }
     }
 
-    /// Uses up the slip that is out: its set is waived for good, the finding forgotten, and the group list emptied.
+    /// Uses up the slip that is out: its set is waived for good, the finding forgotten, and the
+    /// group list emptied.
     fn waive(&mut self, slip: Slip)
-        requires { case_refusal self.old.plain (Signing slip) ≡ Ok tt }
+        requires { Takes self.old.plain slip }
         ensures after { self.new ≡ state_signed slip self.old }
         ensures plan { Solvable self.new.plain.task 0 }
     {
@@ -290,10 +304,11 @@ impl Case {
         self.slip_out = false;
     }
 
-    /// Signs a slip: its set is waived, the finding is forgotten and the group list emptied, and the case has a plan. A refusal
-    /// hands the slip back: `Unopened`, `WrongSlip`.
+    /// Signs a slip: its set is waived, the finding is forgotten and the group list emptied, and
+    /// the case has a plan. A refusal hands the slip back: `Unopened`, `WrongSlip`.
     pub fn sign(&mut self, slip: Slip) -> Result<(), (Slip, Refusal)>
         ensures signs { Signs slip self.old (decision_of result) self.new }
+        ensures taken { Takes self.old.plain slip → IsOk result }
         ensures back { IfErr result (λ e. e.0 ≡ slip) }
     {
         if let Err(refusal) = self.check_slip(slip.content) {
@@ -303,9 +318,11 @@ impl Case {
         Ok(())
     }
 
-    /// Tears a slip: only that it is in changes. A refusal hands the slip back: `Unopened`, `WrongSlip`.
+    /// Tears a slip: only that it is in changes. A refusal hands the slip back: `Unopened`,
+    /// `WrongSlip`.
     pub fn tear(&mut self, slip: Slip) -> Result<(), (Slip, Refusal)>
         ensures tears { Tears slip self.old (decision_of result) self.new }
+        ensures taken { Takes self.old.plain slip → IsOk result }
         ensures back { IfErr result (λ e. e.0 ≡ slip) }
     {
         match self.check_slip(slip.content) {
@@ -318,8 +335,8 @@ impl Case {
         }
     }
 
-    /// Draws a slip for the finding and signs it at once; the case has a plan then. Once it is drawn, it can't be
-    /// refused. Refused: `Unopened`, `SlipOut`, `NoFinding`.
+    /// Draws a slip for the finding and signs it at once; the case has a plan then. Once it is
+    /// drawn, it can't be refused. Refused: `Unopened`, `SlipOut`, `NoFinding`.
     pub fn draw_and_sign(&mut self) -> Result<(), Refusal>
         ensures both { DrawsAndSigns self.old result self.new }
         ensures plan { IfOk result (λ u. Solvable self.new.plain.task 0) }
@@ -329,7 +346,8 @@ impl Case {
         Ok(())
     }
 
-    /// Whether the places are a plan of the case with the facts of `strike` struck out, and if not, why. The case stays as it is.
+    /// Whether the places are a plan of the case with the facts of `strike` struck out, and if not,
+    /// why. The case stays as it is.
     ///
     /// Refused: `Unopened`, `UnknownFact`.
     pub fn check_plan(&mut self, strike: Facts, places: &[u8]) -> Result<PlanCheck, Refusal>

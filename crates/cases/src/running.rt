@@ -1,11 +1,11 @@
 //! Lists of calls, made one after another on a fresh case.
 
-ghost use Rattle.std.specs.Prelude.{◌≡◌, List, Some, MatchResult, IfOk};
+ghost use Rattle.std.specs.Prelude.{◌≡◌, ◌≢◌, List, Some, MatchResult, IfOk};
 ghost use Rattle.deciders.specs.Reaching.{SameReach};
 ghost use Rattle.waivers.specs.Known.{Listed};
 ghost use Rattle.cases.specs.State.{known_of};
 ghost use Rattle.cases.specs.Calls.{Entry, entry_of, Recorded};
-ghost use Rattle.cases.specs.Slips.{InHand, SaysOther};
+ghost use Rattle.cases.specs.Slips.{InHand};
 ghost use Rattle.cases.specs.Making.{Draws, Signs, Tears, Makes};
 ghost use Rattle.cases.specs.Law.{Law};
 
@@ -17,7 +17,8 @@ use pickers::Picker;
 use rules::Refusal;
 use std::alloc::{AllocFailed, Global};
 
-/// What a list of calls comes to: what each call answered, the case then, and its slip where one is out.
+/// What a list of calls comes to: what each call answered, the case then, and its slip where one is
+/// out.
 pub struct Outcome {
     pub answers: Vec<Answer>,
     pub case: Case,
@@ -42,8 +43,8 @@ fn draw(case: &mut Case, in_hand: Option<Slip>) -> (Result<SlipData, Refusal>, O
 /// The slip in hand, if it says this; else what is in hand stays there.
 fn take(in_hand: Option<Slip>, content: SlipData) -> Result<Slip, Option<Slip>>
     ensures { MatchResult result
-        (λ slip. (in_hand ≡ Some slip) × (slip ≡ content))
-        (λ left. (left ≡ in_hand) × SaysOther content in_hand) }
+        (λ slip. (slip ≡ content) × (in_hand ≡ Some content))
+        (λ left. (left ≡ in_hand) × (in_hand ≢ Some content)) }
 {
     match in_hand {
         Some(slip) => {
@@ -57,7 +58,8 @@ fn take(in_hand: Option<Slip>, content: SlipData) -> Result<Slip, Option<Slip>>
     }
 }
 
-/// Signs the slip in hand, if it says this. What says anything else is not the slip that is out, and the case refuses it.
+/// Signs the slip in hand, if it says this. What says anything else is not the slip that is out,
+/// and the case refuses it.
 fn sign(
     case: &mut Case,
     in_hand: Option<Slip>,
@@ -76,7 +78,8 @@ fn sign(
     }
 }
 
-/// Tears the slip in hand, if it says this. What says anything else is not the slip that is out, and the case refuses it.
+/// Tears the slip in hand, if it says this. What says anything else is not the slip that is out,
+/// and the case refuses it.
 fn tear(
     case: &mut Case,
     in_hand: Option<Slip>,
@@ -145,11 +148,12 @@ fn make<D: Decider, P: Picker>(
     }
 }
 
-/// Makes the calls in turn on a fresh case, refused or not, and hands back the answers, with the buffers of every find, the case, and
-/// its slip where one is out. Sign and tear are made with the slip that was drawn, if it says what they bring; else they are refused.
+/// Makes the calls in turn on a fresh case, refused or not, and hands back the answers, with the
+/// buffers of every find, the case, and its slip where one is out. Sign and tear are made with the
+/// slip that was drawn, if it says what they bring; else they are refused.
 ///
-/// All memory is reserved before the first call. Where there is none, no call is made, and the list is handed back. Whether there is, no
-/// contract says.
+/// All memory is reserved before the first call. Where there is none, no call is made, and the list
+/// is handed back. Whether there is, no contract says.
 pub fn run<D: Decider, P: Picker>(
     heap: Global,
     decider: &mut D,

@@ -5,15 +5,16 @@ ghost use Rattle.std.specs.Prelude.{◌≡◌};
 use rules::Facts;
 use std::marker::Model;
 
-/// What a slip says: the number of the case that it was drawn from, and the set that it waives once it is signed.
+/// What a slip says: the number of the case that it was drawn from, and the set that it waives once
+/// it is signed.
 #[derive(Clone, Copy, PartialEq, Eq, Debug)]
 pub struct SlipData {
     pub number: u32,
     pub set: Facts,
 }
 
-/// A slip. It can't be let go, copied or made by hand: draw makes it, and it is signed or torn. In contracts it stands for
-/// what it says.
+/// A slip. It can't be let go, copied or made by hand: draw makes it, and it is signed or torn. In
+/// contracts it stands for what it says.
 pub struct Slip {
     pub(crate) content: SlipData,
 }

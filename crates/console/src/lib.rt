@@ -1,4 +1,5 @@
-//! The program's standard input and output: reads a case file, and writes one report line for each of its lines.
+//! The program's standard input and output: reads a case file, and writes one report line for each
+//! of its lines.
 
 #![tactic(auto)]
 
@@ -47,8 +48,8 @@ fn serve_gathered<D: Decider, P: Picker, W: Write + Drop>(
     Ok(())
 }
 
-/// Serves the case file on standard input: a screen over forward with 4,096 rows decides, and the counting picker picks.
-/// Fails for want of memory, or where input or output fails.
+/// Serves the case file on standard input: a screen over forward with 4,096 rows decides, and the
+/// counting picker picks. Fails for want of memory, or where input or output fails.
 pub fn serve_input(rt: &HostRuntime) -> anyhow::Result<()> {
     let heap = rt.alloc();
     let text = read_text(heap, rt.stdin())?;

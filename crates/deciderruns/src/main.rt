@@ -1,4 +1,5 @@
-//! Runs of the deciders: worked cases, limits, long plans, and random problems against a naive second way.
+//! Runs of the deciders: worked cases, limits, long plans, and random problems against a naive
+//! second way.
 
 #![tactic(auto)]
 

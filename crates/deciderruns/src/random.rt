@@ -53,7 +53,8 @@ pub struct Tally {
 }
 
 impl Tally {
-    /// Counts an answer, which is wrong unless it agrees with the second way. With 64 rows nothing of six facts is beyond reach.
+    /// Counts an answer, which is wrong unless it agrees with the second way. With 64 rows nothing
+    /// of six facts is beyond reach.
     fn add(
         &mut self,
         answer: Result<Verdict, DeciderFault>,

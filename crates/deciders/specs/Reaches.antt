@@ -17,7 +17,7 @@ ForwardReach p x m b =
 abbrev pub regression : Successor
 regression t w =
     if shares t.gives w then (
-      if shares t.takes w then None else Some ((w ∖ t.gives) ∪ t.needs)
+    if shares t.takes w then None else Some ((w ∖ t.gives) ∪ t.needs)
     ) else None
 
 -- Backward lists subgoals, from the order on, until one is contained in the standing.

@@ -8,7 +8,8 @@ ghost use Rattle.deciders.specs.Answers.{report_values};
 use rules::{Facts, Layer};
 
 /// The answer to a query inside the decider's reach.
-// Both are answers that are proved, in the subject's words, and beside them stands `Err` for no answer; `None` would read as that
+// Both are answers that are proved, in the subject's words, and beside them stands `Err` for no
+// answer; `None` would read as that
 #[derive(Clone, Copy, PartialEq, Eq, Debug)]
 pub enum Verdict {
     /// There is a plan of this length, and the plan book holds it.

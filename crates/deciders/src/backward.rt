@@ -17,8 +17,8 @@ pub struct Backward {
     search: Search,
 }
 
-/// Regression: an entry is a subgoal, a step that gives a fact of it and takes none leads back to what it needs, and an entry
-/// that stands is a goal.
+/// Regression: an entry is a subgoal, a step that gives a fact of it and takes none leads back to
+/// what it needs, and an entry that stands is a goal.
 impl Direction for Backward {
     ghost successor_of = { regression };
 
@@ -59,7 +59,8 @@ impl Decider for Backward {
         sheet: &mut [Row],
         book: &mut [u8],
     ) -> Result<Verdict, DeciderFault> {
-        // the way is written from its end, a set that stands, and so it leads from there to the order
+        // the way is written from its end, a set that stands, and so it leads from there to the
+        // order
         self.search
             .answer::<Backward>(problem, strike, Self::MARK, sheet, book)
     }

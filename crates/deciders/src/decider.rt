@@ -12,8 +12,8 @@ use rules::{Facts, Problem};
 
 /// Answers whether a struck-out problem has a plan, on the caller's working sheet and plan book.
 ///
-/// Inside its reach a decider says solvable, with a plan in the first places of the book, if there is a plan, else
-/// blocked. Outside it says beyond reach.
+/// Inside its reach a decider says solvable, with a plan in the first places of the book, if there
+/// is a plan, else blocked. Outside it says beyond reach.
 pub trait Decider {
     /// The mark of the decider's kind, which a fault carries.
     const MARK: u8;
@@ -21,7 +21,8 @@ pub trait Decider {
     // the mark, for clauses
     ghost MARK: { ℕ };
 
-    // reach d p x m b: with m rows and b places in the book, the decider d settles the task p without the facts of x
+    // reach d p x m b: with m rows and b places in the book, the decider d settles the task p
+    // without the facts of x
     ghost reach: { Self → Task → ℕ → ℕ → ℕ → Type 0 };
 
     /// Whether the problem has a plan without the facts of `strike`. The rows are free afterwards.

@@ -10,11 +10,13 @@ use crate::index::Index;
 use crate::row::Row;
 use rules::Facts;
 
-/// Why a search has no answer: its sheet or its book breaks the limits, or an entry found no free row.
+/// Why a search has no answer: its sheet or its book breaks the limits, or an entry found no free
+/// row.
 #[derive(Clone, Copy, Debug)]
 pub(crate) struct Unsettled;
 
-/// The entries on the first rows of a sheet, with an index over them, so that it costs little to ask whether a set is listed.
+/// The entries on the first rows of a sheet, with an index over them, so that it costs little to
+/// ask whether a set is listed.
 // Rows and how many are filled, since the sheet is a slice of the caller's, a rule of the project.
 #[derive(Drop)]
 pub(crate) struct Listing<'a> {
@@ -87,7 +89,8 @@ impl<'a> Listing<'a> {
         Ok(n)
     }
 
-    /// Writes the places from the row `from` up to the first row to the front of the book, and says how many there are.
+    /// Writes the places from the row `from` up to the first row to the front of the book, and says
+    /// how many there are.
     pub(crate) fn climb(&self, from: usize, book: &mut [u8]) -> usize
         requires fits { (from < self.now.count) × (from < length book.old) }
         requires back { (i : ℕ) → 0 < i → i ≤ from → (row_of self.now.rows.now i).parent < i }

@@ -12,7 +12,8 @@ use crate::limits::check_sizes;
 use crate::row::Row;
 use rules::{Facts, Problem};
 
-/// Whether the order cannot stand even if no step takes anything, with the facts of `strike` struck out.
+/// Whether the order cannot stand even if no step takes anything, with the facts of `strike` struck
+/// out.
 ///
 /// No step is struck out for it: what is gone stands all along, so that no step waits for it.
 fn is_screened_out(problem: &Problem, strike: Facts) -> bool
@@ -23,7 +24,8 @@ fn is_screened_out(problem: &Problem, strike: Facts) -> bool
     !closure_has(problem.table.places(), all, problem.order)
 }
 
-/// Blocks what is blocked even if no step takes anything, and asks the decider below it for the rest.
+/// Blocks what is blocked even if no step takes anything, and asks the decider below it for the
+/// rest.
 #[derive(Default, Drop)]
 pub struct Screen<D> {
     pub below: D,

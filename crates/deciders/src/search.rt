@@ -1,6 +1,6 @@
 //! A search: it lists entries on a sheet, expands each entry in turn, and stops at a goal.
 
-ghost use Rattle.std.specs.Prelude.{◌≡◌, ℕ, ◌<◌, T, length, IfOk};
+ghost use Rattle.std.specs.Prelude.{◌≡◌, ◌↔◌, ℕ, ◌<◌, IsTrue, length, IfOk};
 ghost use Rattle.rules.specs.Planning.{strike as strike_out, Consistent};
 ghost use Rattle.rules.specs.Listing.{Successor};
 ghost use Rattle.deciders.specs.declared.struck.StruckOut.{StruckOut as Struck};
@@ -16,7 +16,8 @@ use crate::row::Row;
 use crate::struck::StruckOut;
 use rules::{Facts, Problem, Step};
 
-/// A direction of search: where it starts, what a step makes of an entry, and which entries are goals.
+/// A direction of search: where it starts, what a step makes of an entry, and which entries are
+/// goals.
 pub(crate) trait Direction {
     // what a step makes of an entry
     ghost successor_of: { Successor };
@@ -37,12 +38,12 @@ pub(crate) trait Direction {
 
     /// Whether the search may end with this entry.
     fn is_goal(struck: &StruckOut, entry: Facts) -> bool
-        ensures holds { T result → goal struck.now entry }
-        ensures fails { goal struck.now entry → T result };
+        ensures { IsTrue result ↔ goal struck.now entry };
 }
 
 impl<'a> Listing<'a> {
-    /// Lists what the actions make of the entry `at`, and says which of the new rows is a goal, if one is.
+    /// Lists what the actions make of the entry `at`, and says which of the new rows is a goal, if
+    /// one is.
     fn expand<D: Direction>(
         &mut self,
         struck: &StruckOut,
@@ -112,8 +113,8 @@ pub(crate) struct Search {
 }
 
 impl Search {
-    /// Answers by a search for a way from the start of a direction to a goal, with the facts of `strike`
-    /// struck out. Writes the places of the way, the last first, to the front of the book.
+    /// Answers by a search for a way from the start of a direction to a goal, with the facts of
+    /// `strike` struck out. Writes the places of the way, the last first, to the front of the book.
     pub(crate) fn answer<D: Direction>(
         &mut self,
         problem: &Problem,

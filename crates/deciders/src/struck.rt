@@ -14,7 +14,8 @@ pub(crate) struct Action {
     pub place: u8,
 }
 
-/// What is left of a problem once facts are struck out: what stands, what is ordered, and the steps, by rising place.
+/// What is left of a problem once facts are struck out: what stands, what is ordered, and the
+/// steps, by rising place.
 #[derive(Default, Drop)]
 pub(crate) struct StruckOut {
     pub standing: Facts,
@@ -24,7 +25,8 @@ pub(crate) struct StruckOut {
 
 impl StruckOut {
     /// Becomes the problem without the facts of `strike` and the waived ones.
-    // Filled in its place, in the memory of a search; making it anew and moving it took 14 ns a query.
+    // Filled in its place, in the memory of a search; making it anew and moving it took 14 ns a
+    // query.
     pub(crate) fn fill(&mut self, problem: &Problem, strike: Facts)
         ensures struck { self.new ≡ remainder problem.now strike }
         ensures consistent { Consistent problem.now }

@@ -1,4 +1,5 @@
-//! The waiver finder once more, run on a case file with every call that changes the problem, made and refused.
+//! The waiver finder once more, run on a case file with every call that changes the problem, made
+//! and refused.
 
 #![tactic(auto)]
 

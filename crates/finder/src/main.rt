@@ -1,4 +1,5 @@
-//! The waiver finder: reads a case file from standard input and writes one report line for each of its lines.
+//! The waiver finder: reads a case file from standard input and writes one report line for each of
+//! its lines.
 
 #![tactic(auto)]
 

@@ -1,4 +1,5 @@
-//! A host of the library: it keeps one case itself, finds what to waive, draws the slip and signs it.
+//! A host of the library: it keeps one case itself, finds what to waive, draws the slip and signs
+//! it.
 
 #![tactic(auto)]
 
@@ -15,7 +16,8 @@ fn open(case: &mut Case) -> Result<(), Refusal> {
     case.put(1, 0b0001, 0b0100, 0)
 }
 
-/// Waives the fewest facts, and says which. The plan's places are then in the first places of the book.
+/// Waives the fewest facts, and says which. The plan's places are then in the first places of the
+/// book.
 fn waive_fewest(case: &mut Case, book: &mut [u8]) -> Result<(Facts, u16), FinderFault> {
     let mut decider = Screen::<Forward>::default();
     let mut sheet = [Row::default(); 16];

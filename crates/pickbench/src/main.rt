@@ -1,4 +1,5 @@
-//! Has both pickers pick for long lists, where a walk through all sets would take minutes, and prints what they answer.
+//! Has both pickers pick for long lists, where a walk through all sets would take minutes, and
+//! prints what they answer.
 
 #![tactic(auto)]
 

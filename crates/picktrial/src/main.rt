@@ -1,5 +1,5 @@
-//! Answers each line of the input, a list of sets as decimal numbers, by both pickers: the lowest and
-//! the highest of the minimum hitting sets.
+//! Answers each line of the input, a list of sets as decimal numbers, by both pickers: the lowest
+//! and the highest of the minimum hitting sets.
 
 #![tactic(auto)]
 

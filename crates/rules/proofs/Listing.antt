@@ -1,8 +1,8 @@
 -- Listings: what is listed is reached, what is reached is listed, and nothing is listed twice.
-use Rattle.std.proofs.Common.{◌≡◌, ℕ, zero, suc, ◌+◌, ◌-◌, ◌<◌, ◌≤◌, Bool, true, false, cond, not, ◌||◌, T, eqb, ltb, ◌⊎◌, List, [], ◌∷◌, ◌++◌, length, get_or, Some, None, Option, sym, refl, ap, ◌∙◌, subst, inl, inr, suc-add, zero-add, arith, eqb→eq, ltb→lt, nltb→le, length-append}
+use Rattle.std.proofs.Common.{◌≡◌, ◌≢◌, ℕ, zero, suc, ◌+◌, ◌-◌, ◌<◌, ◌≤◌, Bool, true, false, cond, not, ◌||◌, T, eqb, ltb, ◌⊎◌, List, [], ◌∷◌, ◌++◌, AllPairs, length, get_or, Some, None, Option, sym, refl, ap, ◌∙◌, subst, inl, inr, suc-add, zero-add, arith, eqb→eq, ltb→lt, nltb→le, length-append}
 use native.Mathlib.Decide.{dec_lt}
 use lib.ListN.{get_or-append}
-use Rattle.std.proofs.lemmas.List.{get_or_push}
+use Rattle.std.proofs.lemmas.List.{get_or_default, get_or_push}
 use lib.Dec.{eqb_refl}
 use Rattle.rules.specs.Steps.{Step}
 use Rattle.rules.specs.Listing.{Successor, is_listed, with_entry, with_made, expansion, listing, Whole, Path}
@@ -294,5 +294,9 @@ first_entries f ts start k m i h i<k i<m = elim (dec_lt i (length (listing f ts 
   | no ge ↦ (let e = (stays_at f ts start k m h).1 (omega arith) in absurd (omega (arith, ap length e)))
 ]
 
+-- the same in std's word
+pub pairs_apart : (l : List ℕ) → Apart l → AllPairs (λ a b. a ≢ b) l
+pairs_apart l apart i j d i<j j<l = rw (get_or_default l i d 0 (omega arith), get_or_default l j d 0 j<l) (apart i j i<j j<l)
+
 pub no_repeats : NoRepeats
-no_repeats f ts start m = apart_listing f ts start m
+no_repeats f ts start m = pairs_apart (listing f ts start m) (apart_listing f ts start m)

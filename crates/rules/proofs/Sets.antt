@@ -1,5 +1,5 @@
 -- Sets of facts, digit by digit.
-use Rattle.std.proofs.Common.{◌≡◌, ℕ, zero, suc, ◌+◌, ◌-◌, ◌/◌, ◌%◌, ◌^◌, ◌<◌, ◌≤◌, min, max, Bool, true, false, not, T, eqb, ◌⊎◌, sym, refl, ap, ◌∙◌, subst, inl, inr, le_of_eq, eq-zero-or-pos, arith, eqb→eq, T_not, pow_pos}
+use Rattle.std.proofs.Common.{◌↔◌, IsTrue, ◌≡◌, ℕ, zero, suc, ◌+◌, ◌-◌, ◌/◌, ◌%◌, ◌^◌, ◌<◌, ◌≤◌, min, max, Bool, true, false, not, T, eqb, ◌⊎◌, sym, refl, ap, ◌∙◌, subst, inl, inr, le_of_eq, eq-zero-or-pos, arith, eqb→eq, T_not, pow_pos}
 use native.Mathlib.Decide.{dec_lt}
 use Rattle.std.proofs.lemmas.Bool.{cases_eq, cases_lt}
 use Rattle.std.proofs.lemmas.Float.{T_from_true}
@@ -7,7 +7,7 @@ use lib.Count.{ones, ones_step, ones-ones}
 use Rattle.std.proofs.lemmas.Nat.Bits.{bit_at-lt, bit_at_lowest, bit_at-suc, bit_at-zero, bit_at_and, bit_at_or, bit_at_xor, bit_at-pow_same, bit_at-pow_other, bit_at_ones, bit_at_ones_above, bit_at_above, same_from_bits}
 use lib.Arith.{bin_ind}
 use lib.Bits.{bit_and, bit_or, or_step, or_shr}
-use Rattle.rules.specs.Sets.{bit, ◌∈◌, ◌∖◌, ◌⊆◌, ◌∪◌, ◌∩◌, Meets, single, below, size, inside, SetsMean, SizesMean}
+use Rattle.rules.specs.Sets.{bit, ◌∈◌, ◌∖◌, ◌⊆◌, ◌∪◌, ◌∩◌, Meets, single, below, size, inside, shares, SetsMean, SizesMean}
 use Rattle.rules.proofs.Listing.{T→true}
 
 pub bit_le : (a f : ℕ) → bit a f ≤ 1
@@ -200,6 +200,10 @@ unfolding inside
     let e : a ∖ b ≡ 0 = none_below (a ∖ b) (λ f. omega (arith, bits, h f)) in
     subst (λ (x : ℕ). T (eqb x 0)) (sym e) tt
 
+-- the test and its meaning
+pub inside_means : (a b : ℕ) → IsTrue (inside a b) ↔ (a ⊆ b)
+inside_means a b = ((λ h. inside→ a b (T_from_true (inside a b) h)), λ h. T→true (inside a b) (→inside a b h))
+
 pub inside_dec : (a b : ℕ) → (a ⊆ b) ⊎ (a ⊆ b → ⊥)
 inside_dec a b = go (inside a b) refl
   where
@@ -257,7 +261,7 @@ sets_mean = (
   (λ f g. (single_only g f, λ e. ap (bit (2 ^ g)) e ∙ single_in g)),
   (λ f n. ((λ i. elim (dec_lt f n) [ yes h ↦ h | no h ↦ absurd (omega (arith, bit_above n f (omega arith))) ]), bit_below n f)),
   (λ f i. omega (arith, bit_none f)),
-  (λ a b. ((λ h. inside→ a b (T_from_true (inside a b) h)), λ h. T→true (inside a b) (→inside a b h))),
+  inside_means,
   λ a b. (→apart a b, apart_and a b),
 )
 
@@ -279,3 +283,6 @@ test_share a b m = go (eqb (a ∩ b) 0) refl
     go : (t : Bool) → eqb (a ∩ b) 0 ≡ t → T (not t)
     go true e = absurd (omega (arith, eqb→eq (a ∩ b) 0 (subst T (sym e) tt), meets→pos a b m))
     go false e = tt
+
+pub shares_means : (a b : ℕ) → IsTrue (shares a b) ↔ Meets a b
+shares_means a b = ((λ h. share_test a b (T_from_true (shares a b) h)), λ m. T→true (shares a b) (test_share a b m))

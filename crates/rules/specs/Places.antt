@@ -12,12 +12,12 @@ AllClear ts = All (λ o. IfSome o IsClear) ts
 abbrev pub put_refusal : List (Option Step) → ℕ → Result Unit Refusal
 put_refusal ts i =
     if nat_lt i 64 then (
-      if is_some (slice_index_or ts i None) then Err PlaceTaken else Ok tt
+    if is_some (slice_index_or ts i None) then Err PlaceTaken else Ok tt
     ) else Err NoSuchPlace
 
 -- whether the place i may be emptied: it is one of 64 and holds a step
 abbrev pub clear_refusal : List (Option Step) → ℕ → Result Unit Refusal
 clear_refusal ts i =
     if nat_lt i 64 then (
-      if is_some (slice_index_or ts i None) then Ok tt else Err PlaceEmpty
+    if is_some (slice_index_or ts i None) then Ok tt else Err PlaceEmpty
     ) else Err NoSuchPlace

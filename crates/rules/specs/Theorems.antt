@@ -1,6 +1,6 @@
 -- What is proved of the rules.
 use Rattle.std.specs.Prelude.{◌≡◌, ◌≢◌, ℕ, ◌^◌, ◌<◌, ◌≤◌, ◌⊎◌, ◌↔◌, Some, None, Option}
-use Rattle.std.specs.Prelude.{List, length, All, EachIndex, slice_index, slice_set}
+use Rattle.std.specs.Prelude.{List, length, All, AllPairs, EachIndex, slice_index, slice_set}
 use Rattle.rules.specs.Steps.{Step}
 use Rattle.rules.specs.Sets.{◌⊆◌, ◌∖◌, Meets, size}
 use Rattle.rules.specs.Planning.{Task, step_at, result_of, Plan, Walk, strike, Solvable, Blocked}
@@ -97,9 +97,8 @@ FirstEntries = (f : Successor) (ts : List (Option Step)) (start k m i : ℕ) →
 
 -- No entry is listed twice.
 abbrev pub NoRepeats : Type 0
-NoRepeats = (f : Successor) (ts : List (Option Step)) (start m i j : ℕ) → i < j
-    → j < length (listing f ts start m)
-    → slice_index (listing f ts start m) i ≢ slice_index (listing f ts start m) j
+NoRepeats = (f : Successor) (ts : List (Option Step)) (start m : ℕ)
+    → AllPairs (λ d e. d ≢ e) (listing f ts start m)
 
 -- A listing whose entries stay below 2 ^ b is whole after 2 ^ b entries.
 abbrev pub ListingEnds : Type 0

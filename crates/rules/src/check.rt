@@ -1,4 +1,5 @@
-//! What the plan check says, and its parts: a guard over the problem's own standing, and a step done on it.
+//! What the plan check says, and its parts: a guard over the problem's own standing, and a step
+//! done on it.
 
 ghost use Rattle.std.specs.Prelude.{◌≡◌, None, MatchOption, slice_index_or};
 ghost use Rattle.rules.specs.Planning.{place_without};
@@ -9,7 +10,8 @@ use crate::problem::Standing;
 use crate::table::StepTable;
 
 /// What the plan check says of a list of places.
-// Three answers, and no error among them; as a Result it would stand inside the Result of the case's refusals.
+// Three answers, and no error among them; as a Result it would stand inside the Result of the
+// case's refusals.
 #[derive(Clone, Copy, PartialEq, Eq, Debug)]
 pub enum PlanCheck {
     /// The places are a plan.
@@ -50,7 +52,8 @@ impl Drop for StandingGuard<'_> {
     }
 }
 
-/// The standing after the step at a place, with the facts of `gone` struck out; none where it can't be done.
+/// The standing after the step at a place, with the facts of `gone` struck out; none where it can't
+/// be done.
 pub(crate) fn do_step(
     table: &StepTable,
     place: u8,

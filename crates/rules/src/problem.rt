@@ -15,7 +15,8 @@ pub struct Standing {
     pub facts: Facts,
 }
 
-/// A planning problem: facts numbered from 0 to below `n`, what stands, what is ordered, what is waived, and the steps.
+/// A planning problem: facts numbered from 0 to below `n`, what stands, what is ordered, what is
+/// waived, and the steps.
 #[derive(Drop)]
 pub struct Problem {
     pub n: u8,

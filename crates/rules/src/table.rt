@@ -53,7 +53,8 @@ impl StepTable {
         *self.places.get(usize::from(place))?
     }
 
-    /// Fills an empty place. The other 63 places keep their steps. Refused: `NoSuchPlace`, `PlaceTaken`.
+    /// Fills an empty place. The other 63 places keep their steps. Refused: `NoSuchPlace`,
+    /// `PlaceTaken`.
     pub fn put(&mut self, place: u8, step: Step) -> Result<(), Refusal>
         ensures answer { result ≡ put_refusal self.old place }
         ensures after { self.new
@@ -71,7 +72,8 @@ impl StepTable {
         Ok(())
     }
 
-    /// Empties a place that holds a step. The other 63 places keep their steps. Refused: `NoSuchPlace`, `PlaceEmpty`.
+    /// Empties a place that holds a step. The other 63 places keep their steps. Refused:
+    /// `NoSuchPlace`, `PlaceEmpty`.
     pub fn clear(&mut self, place: u8) -> Result<(), Refusal>
         ensures answer { result ≡ clear_refusal self.old place }
         ensures after { self.new ≡ unless_refused result (λ ts. slice_set ts place None) self.old }

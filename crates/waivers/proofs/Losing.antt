@@ -1,6 +1,5 @@
 -- A list of groups that lose facts: nothing is listed twice, and what holds of each group without the facts holds of each that is left.
-use Rattle.std.proofs.Common.{◌≡◌, ◌≢◌, AllPairs, ℕ, suc, ◌+◌, ◌<◌, ◌≤◌, eqb, List, [], ◌∷◌, fold, length, get_or, refl, subst, inl, inr, arith, length-append}
-use Rattle.std.proofs.lemmas.List.{get_or_default}
+use Rattle.std.proofs.Common.{◌≡◌, ℕ, suc, ◌+◌, ◌<◌, ◌≤◌, eqb, List, [], ◌∷◌, fold, length, get_or, refl, subst, inl, inr, arith, length-append}
 use Rattle.std.specs.List.{list_any}
 use Rattle.rules.specs.Sets.{◌∖◌}
 use Rattle.rules.specs.Listing.{is_listed, with_entry}
@@ -11,12 +10,6 @@ use Rattle.rules.proofs.Listing.{At, Apart, apart_with_entry, from_with_entry}
 pub listed_is : (s : ℕ) (l : List ℕ) → list_any (λ y. eqb y s) l ≡ is_listed s l
 listed_is s [] = refl
 listed_is s (a ∷ l) = grind (arith, listed_is s l)
-
--- ---- nothing twice
-
--- where no two places hold the same, no two entries are the same
-pub pairs_apart : (gs : List ℕ) → Apart gs → AllPairs (λ g h. g ≢ h) gs
-pairs_apart gs apart i j d lt le = rw (get_or_default gs i d 0 (omega arith), get_or_default gs j d 0 le) (apart i j lt le)
 
 -- ---- what is left
 

@@ -1,4 +1,5 @@
-use Rattle.std.proofs.Common.{sym, ap, ◌∙◌, arith}
+use Rattle.std.proofs.Common.{sym, refl, ap, ◌∙◌, arith}
+use Rattle.std.proofs.lemmas.Bool.{false≢true}
 use Rattle.std.proofs.lemmas.Result.{err_from_is_err_and}
 use Rattle.deciders.specs.declared.struck.Action.{Action}
 use Rattle.deciders.proofs.Sheets.{action_at, going_none, going_seen, going_full, going_goal, going_more}
@@ -23,7 +24,7 @@ returns-then-is_goal-clause-expands g c =
     let at_place = ap (λ (a : Action). a.place) (sym item) in
     let n = c.in_ok-row.ensures.number in
     rw (c.in_ok-row.ensures.rows, c.in_ok-row.ensures.count, n.0)
-    (going_goal c.loop-action.invariant.going here c.in-Some.made (sym made) (sym c.if-not-has.ensures) _ at_place (omega (arith, n)) (c.if-is_goal.ensures.holds tt))
+    (going_goal c.loop-action.invariant.going here c.in-Some.made (sym made) (sym c.if-not-has.ensures) _ at_place (omega (arith, n)) (c.if-is_goal.ensures.0 refl))
 
 pub loop-action-preserved : goal.loop-action-preserved
 loop-action-preserved g c =
@@ -37,7 +38,7 @@ loop-action-preserved g c =
           (let made = rw item at w.in-Some.ensures in
           let n = w.in_ok-row.ensures.number in
           rw (w.self-is, w.in_ok-row.ensures.rows, w.in_ok-row.ensures.count, n.0) (record {
-            going = going_more x.going here w.in-Some.made (sym made) (sym w.if-not-has.ensures) _ at_place (omega (arith, n)) w.if-is_goal.ensures.fails;
+            going = going_more x.going here w.in-Some.made (sym made) (sym w.if-not-has.ensures) _ at_place (omega (arith, n)) (λ j. false≢true (w.if-is_goal.ensures.1 j));
             loan = w.in_ok-row.ensures.loan ∙ x.loan;
           }))
       | in-Some+else-not-has w ↦
