@@ -132,8 +132,8 @@ impl Case {
     /// Opens the case: sets its number, the number of facts, the standing and the order. Refused:
     /// `AlreadyOpen`, `FactCount`, `UnknownFact`.
     ///
-    /// The host gives open cases different numbers: a slip is told by its case's number and its set,
-    /// and no case knows of another (docs/SLIPS.md).
+    /// The host gives open cases different numbers: a slip is told by its case's number and its
+    /// set, and no case knows of another (docs/SLIPS.md).
     pub fn open(&mut self, number: u32, n: u8, standing: Facts, order: Facts) -> Result<(), Refusal>
         ensures { Opens number n standing order self.old result self.new }
     {

@@ -6,6 +6,7 @@
 ghost use Rattle.std.specs.Prelude.{◌≡◌, ◌≤◌, [], length, take, vec_len, IfOk, IfSome};
 ghost use Rattle.std.specs.Io.Buffered.{writer_contents, writer_buffer};
 ghost use Rattle.casefile.specs.Desks.{ServesTextAt};
+ghost use Rattle.console.specs.Fresh.{ServesFresh, ServesCaseFile};
 
 use casefile::{Desk, MAX_TEXT, MIN_REPORT, ServeFault, serve_text};
 use cases::Case;
@@ -48,24 +49,55 @@ fn serve_gathered<D: Decider, P: Picker, W: Write + Drop>(
     Ok(())
 }
 
-/// Serves the case file on standard input: a screen over forward with 4,096 rows decides, and the
-/// counting picker picks. Fails for want of memory, or where input or output fails.
-pub fn serve_input(rt: &HostRuntime) -> anyhow::Result<()> {
-    let heap = rt.alloc();
-    let text = read_text(heap, rt.stdin())?;
+/// Serves a text on a fresh case, and holds nothing back in the end. Fails for want of memory, or
+/// where the writer fails.
+fn serve_fresh<D: Decider, P: Picker, W: Write + Drop>(
+    heap: Global,
+    text: &[u8],
+    decider: &mut D,
+    picker: &P,
+    output: &mut BufWriter<W>,
+) -> anyhow::Result<()>
+    ensures serves { IfOk result (λ _. ServesFresh (P.choice picker.now) D.reach D.MARK decider.old
+        text.now (writer_contents W.contents output.old) (writer_contents W.contents output.new)) }
+    ensures gathered { IfOk result (λ _. writer_buffer output.new ≡ []) }
+{
     let mut case = Case::new(heap)?;
-    let mut decider = Screen::<Forward>::default();
     let mut sheet = vec![in heap; Row::default(); MAX_ROWS]?;
     let mut book = vec![in heap; 0u8; MAX_PLACES]?;
     let mut buffer = vec![in heap; 0u8; MIN_REPORT]?;
     let mut desk = Desk {
         case: &mut case,
-        decider: &mut decider,
-        picker: &CountingPicker,
+        decider,
+        picker,
         sheet: &mut sheet,
         book: &mut book,
     };
-    let mut output = BufWriter::new(heap, rt.stdout())?;
-    serve_gathered(&text, &mut desk, &mut buffer, &mut output)?;
+    serve_gathered(text, &mut desk, &mut buffer, output)?;
     Ok(())
+}
+
+/// Serves a case file as the program does: a screen over forward with 4,096 rows decides, and the
+/// counting picker picks. It holds nothing back in the end. Fails for want of memory, or where the
+/// writer fails.
+pub fn serve_case_file<W: Write + Drop>(
+    heap: Global,
+    text: &[u8],
+    output: &mut BufWriter<W>,
+) -> anyhow::Result<()>
+    ensures serves { IfOk result (λ _. ServesCaseFile text.now
+        (writer_contents W.contents output.old) (writer_contents W.contents output.new)) }
+    ensures gathered { IfOk result (λ _. writer_buffer output.new ≡ []) }
+{
+    let mut decider = Screen::<Forward>::default();
+    serve_fresh(heap, text, &mut decider, &CountingPicker, output)
+}
+
+/// Serves the case file on standard input. Fails for want of memory, or where input or output
+/// fails.
+pub fn serve_input(rt: &HostRuntime) -> anyhow::Result<()> {
+    let heap = rt.alloc();
+    let text = read_text(heap, rt.stdin())?;
+    let mut output = BufWriter::new(heap, rt.stdout())?;
+    serve_case_file(heap, &text, &mut output)
 }
