@@ -107,6 +107,8 @@ def report_of(program: Program, text: bytes) -> tuple[bytes, int]:
     """The report of a case file, and the status that the program ends with."""
     try:
         ended = subprocess.run([program], input=text, stdout=subprocess.PIPE, timeout=SECONDS, check=False)
+    except OSError as error:
+        sys.exit(f"{program} can't be run: {error.strerror}")
     except subprocess.TimeoutExpired:
         sys.exit(f"the program still runs after {SECONDS} seconds, on a text of {len(text)} bytes: {shown(text)!r}")
     return ended.stdout, ended.returncode

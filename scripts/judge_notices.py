@@ -7,8 +7,8 @@ the plain finder without a bug (plain_finder.py), and a finder that answers othe
 
     scripts/judge_notices.py PROGRAM --seed 1 --files 1000
 
-The last line is 'noticed N of M wrong finders on F random files; 0 lines of right finders called wrong'. The status is 1 if a
-wrong finder is not noticed within so many files, or a right one is called wrong.
+The last line is 'noticed N of M wrong finders on F random files; 0 lines of right finders called wrong'. The status is
+1 if a wrong finder is not noticed within so many files, or a right one is called wrong.
 """
 from __future__ import annotations
 

@@ -1,9 +1,9 @@
 """Holds a report against its case file, line by line, for judge.py and judge_notices.py.
 
 Every report line is held against a plain case (plain_case.py), which decides by trying everything. Where the rules
-settle a line, it has to be that line to the byte: every refusal with its number, layer and line number, every accepted line,
-find's set and its size, and 'none' exactly where no good set exists. A plan has to be a plan of the struck-out case,
-whichever. A set that is beyond reach has to be outside the reach and one that find may query; 'list full' needs a
+settle a line, it has to be that line to the byte: every refusal with its number, layer and line number, every accepted
+line, find's set and its size, and 'none' exactly where no good set exists. A plan has to be a plan of the struck-out
+case, whichever. A set that is beyond reach has to be outside the reach and one that find may query; 'list full' needs a
 blocked set of low enough rank and 64 groups that can be listed with it. Besides, each end of find has to be the one
 that is foretold with the groups entered as docs/RULES.md writes it.
 """

@@ -28,7 +28,7 @@ def in_any_case(rng: random.Random, line: str) -> str:
     return "".join(rng.choice((c.lower(), c)) for c in line)
 
 
-def text_of(rng: random.Random, lines: Iterable[str]) -> bytes:
+def mixed_text(rng: random.Random, lines: Iterable[str]) -> bytes:
     """The lines as a text, whose last line may lack its line feed."""
     text = "\n".join(in_any_case(rng, line) for line in lines)
     return (text + rng.choice(("\n", "\n", ""))).encode("latin-1")
@@ -100,7 +100,7 @@ def mixed(rng: random.Random) -> bytes:
     for _ in range(rng.randint(3, 24)):
         lines.append(random_call(rng, rng.choice((facts, facts, loose)), taken))
         lines += [SIGN_LINE] if lines[-1] == FIND_LINE and rng.random() < 0.3 else []
-    return text_of(rng, lines + [FIND_LINE])
+    return mixed_text(rng, lines + [FIND_LINE])
 
 
 def random_call(rng: random.Random, facts: Sequence[int], taken: list[int]) -> str:
@@ -125,7 +125,7 @@ def wrong_lines(rng: random.Random) -> bytes:
     lines = list(good) if rng.random() < 0.7 else []
     for _ in range(rng.randint(1, 25)):
         lines.insert(rng.randint(0, len(lines)), wrong_line(rng, random_call(rng, facts, [])))
-    return text_of(rng, lines)
+    return mixed_text(rng, lines)
 
 
 def wrong_line(rng: random.Random, line: str) -> str:
@@ -185,7 +185,7 @@ def needs_waived(rng: random.Random) -> bytes:
         needs = rng.sample(facts[:-1], min(len(facts) - 1, rng.randint(1, 3)))
         lines.append(layout.put(needs, gives, [f for f in rng.sample(facts, 1) if f not in gives]))
     rng.shuffle(lines)
-    return text_of(rng, [layout.open(facts[missing:missing + present], [order])] + lines + [FIND_LINE, FIND_LINE])
+    return mixed_text(rng, [layout.open(facts[missing:missing + present], [order])] + lines + [FIND_LINE, FIND_LINE])
 
 
 def some_of_many(rng: random.Random) -> bytes:
@@ -195,7 +195,7 @@ def some_of_many(rng: random.Random) -> bytes:
     lines = [layout.put(needs, [many]) for needs in combinations(range(many), few)]
     rng.shuffle(lines)
     dropped = rng.choice((0, 0, 1, 2, len(lines) // 2))
-    return text_of(rng, [layout.open([], [many])] + lines[dropped:] + [FIND_LINE] * rng.randint(1, 3))
+    return mixed_text(rng, [layout.open([], [many])] + lines[dropped:] + [FIND_LINE] * rng.randint(1, 3))
 
 
 def near_64_groups(rng: random.Random) -> bytes:
@@ -205,7 +205,7 @@ def near_64_groups(rng: random.Random) -> bytes:
     later: list[str] = []
     for _ in range(rng.randint(0, 3)):
         later += rng.choice(([FIND_LINE], [random_change(rng, facts, places), FIND_LINE], [SIGN_LINE, FIND_LINE]))
-    return text_of(rng, [opening] + steps[:-1] + early + steps[-1:] + [FIND_LINE] + later)
+    return mixed_text(rng, [opening] + steps[:-1] + early + steps[-1:] + [FIND_LINE] + later)
 
 
 def five_of_eight(rng: random.Random) -> Blocks:
@@ -248,7 +248,7 @@ def long_plans(rng: random.Random) -> bytes:
     if needs:
         lines.append(layout.put(needs, [goal]))
     rng.shuffle(lines)
-    return text_of(rng, [layout.open(zeros, order)] + lines + [FIND_LINE] * rng.randint(1, 2))
+    return mixed_text(rng, [layout.open(zeros, order)] + lines + [FIND_LINE] * rng.randint(1, 2))
 
 
 def beyond_reach(rng: random.Random) -> bytes:
@@ -271,7 +271,7 @@ def beyond_reach(rng: random.Random) -> bytes:
     later = [FIND_LINE] * rng.randint(0, 1)
     if rng.random() < 0.3:
         later += [place_line(WITHDRAW, int(line[2:4], 16)) for line in rng.sample(on, 2)] + [FIND_LINE]
-    return text_of(rng, [layout.open([], [goal])] + lines + [FIND_LINE] + later)
+    return mixed_text(rng, [layout.open([], [goal])] + lines + [FIND_LINE] + later)
 
 
 def none_exists(rng: random.Random) -> bytes:
@@ -288,7 +288,7 @@ def none_exists(rng: random.Random) -> bytes:
         lines += [layout.put(others[:2], [first], [second]), layout.put(others[1:3], [second], [first])]
     opening = layout.open(rng.sample(others, len(others) // 2), [first, second] if ousting else [first])
     rescue = [layout.put(others[:2], [first]), FIND_LINE] if rng.random() < 0.5 else []
-    return text_of(rng, [opening] + lines + [FIND_LINE, FIND_LINE] + rescue)
+    return mixed_text(rng, [opening] + lines + [FIND_LINE, FIND_LINE] + rescue)
 
 
 def repeated_finds(rng: random.Random) -> bytes:
@@ -303,7 +303,7 @@ def repeated_finds(rng: random.Random) -> bytes:
     for _ in range(rng.randint(3, 12)):
         lines += [FIND_LINE, SIGN_LINE] if rng.random() < 0.1 else [FIND_LINE]
         lines.append(blocked_step(rng, layout, taken) if rng.random() < 0.2 else random_change(rng, facts, taken))
-    return text_of(rng, lines + [FIND_LINE, FIND_LINE])
+    return mixed_text(rng, lines + [FIND_LINE, FIND_LINE])
 
 
 def carried_steps(rng: random.Random) -> bytes:
@@ -319,7 +319,7 @@ def carried_steps(rng: random.Random) -> bytes:
     for _ in range(rng.randint(4, 16)):
         change = place_line(CARRY, rng.choice(taken)) if rng.random() < 0.6 else random_change(rng, facts, taken)
         lines += [FIND_LINE, change] if rng.random() < 0.6 else [change]
-    return text_of(rng, lines + [FIND_LINE])
+    return mixed_text(rng, lines + [FIND_LINE])
 
 
 def slips(rng: random.Random) -> bytes:
@@ -340,7 +340,7 @@ def slips(rng: random.Random) -> bytes:
                              [SIGN_LINE, FIND_LINE, SIGN_LINE]))
         lines += [random_change(rng, papers, taken)] if rng.random() < 0.5 else []
         lines.append(set_line(ORDER, 1 << (goal if rng.random() < 0.7 else rng.choice(papers))))
-    return text_of(rng, lines + [FIND_LINE, SIGN_LINE, FIND_LINE])
+    return mixed_text(rng, lines + [FIND_LINE, SIGN_LINE, FIND_LINE])
 
 
 def blocked_step(rng: random.Random, layout: Layout, taken: list[int]) -> str:

@@ -2,7 +2,7 @@
 use Rattle.std.proofs.Common.{◌≡◌, ℕ, ◌-◌, ◌<◌, ◌≤◌, ◌⊎◌, inl, inr, List, [], ◌++◌, length, take, drop, Some, None, Ok, Err, Option, Result, refl, ap, ◌∙◌, subst, arith}
 use Rattle.std.proofs.Math.Seq.{take-append_seam}
 use Rattle.std.specs.Io.KnownBytes.{Keeps, Appends}
-use Rattle.std.proofs.KnownBytes.{Appends-nil, Appends-trans, Keeps-refl}
+use Rattle.std.proofs.KnownBytes.{Appends-nil, Appends-trans, Keeps-refl, Keeps-trans}
 use Rattle.rules.specs.Planning.{Task}
 use Rattle.waivers.specs.Searching.{Choice}
 use Rattle.frames.specs.Reports.{report_line, Printed}
@@ -29,12 +29,6 @@ Keeps-appends None b c bs p q = tt
 Keeps-appends (Some x) None c bs p q = absurd p
 Keeps-appends (Some x) (Some y) None bs p q = absurd q
 Keeps-appends (Some x) (Some y) (Some z) bs p q = q ∙ ap (λ (l : List ℕ). l ++ bs) p
-
-Keeps-trans : (a b c : Option (List ℕ)) → Keeps a b → Keeps b c → Keeps a c
-Keeps-trans None b c p q = tt
-Keeps-trans (Some x) None c p q = absurd p
-Keeps-trans (Some x) (Some y) None p q = absurd q
-Keeps-trans (Some x) (Some y) (Some z) p q = q ∙ p
 
 module _ {D : Type 0} (c : Choice) (reach : D → Task → ℕ → ℕ → ℕ → Type 0) (m : ℕ) (text : List ℕ) (room : ℕ) where
   -- how far the lines of a text are read and reported: not at all, unless the buffer has room and the text is short

@@ -30,9 +30,9 @@ use Rattle.casefile.specs.Reporting.{reply_bytes, Fits}
 
 -- ---- the plan of an answer lies in the book
 
-fits_called : (a : Result Unit Refusal) (b : List ℕ) → Fits (reply_to_call a) b
-fits_called (Ok u) b = tt
-fits_called (Err e) b = tt
+fits_reply_to_call : (a : Result Unit Refusal) (b : List ℕ) → Fits (reply_to_call a) b
+fits_reply_to_call (Ok u) b = tt
+fits_reply_to_call (Err e) b = tt
 
 -- a plan is shorter than the sheet has rows, and the book has a place for each row
 sizes_fit : (o : Result Unit Refusal) (rows places : ℕ) → first_refusal (of_case o) (of_size (size_refusal rows places)) ≡ Ok tt
@@ -45,22 +45,22 @@ module _ (c : Choice) (R : ℕ → Type 0) (m : ℕ) (k k' : State) (s s' : List
   fits_found (Ok f) p gs e (few, room) = (omega (arith, e.fits), omega (arith, e.fits))
   fits_found (Err e) p gs ended sizes = tt
 
-  fits_looked : (a : Result (ℕ × ℕ × ℕ) FinderFault) (o : Result Unit FinderFault) → call_refusal k.plain (Finding s b) ≡ o
+  fits_reply_to_find : (a : Result (ℕ × ℕ × ℕ) FinderFault) (o : Result Unit FinderFault) → call_refusal k.plain (Finding s b) ≡ o
       → FindsUnless o c R m k s b (record { result = a; sheet = s'; book = b' }) k' → Fits (reply_to_find a) b'
-  fits_looked a (Err e) q (is, same) = subst (λ (r : Result (ℕ × ℕ × ℕ) FinderFault). Fits (reply_to_find r) b') (sym (ap (λ (n : FindAnswer). n.result) is)) tt
-  fits_looked a (Ok u) q h =
+  fits_reply_to_find a (Err e) q (is, same) = subst (λ (r : Result (ℕ × ℕ × ℕ) FinderFault). Fits (reply_to_find r) b') (sym (ap (λ (n : FindAnswer). n.result) is)) tt
+  fits_reply_to_find a (Ok u) q h =
       let sizes = sizes_fit (case_refusal k.plain (Finding s b)) (length s) (length b) q in
       subst (λ (r : Result (ℕ × ℕ × ℕ) FinderFault). Fits (reply_to_find r) b') (sym h.answer)
       (fits_found h.found k.plain.task k'.groups h.searches.ended (sizes.0, omega (arith, sizes.1, h.book)))
 
-  fits_calls : (C : Result Unit Refusal → State → Type 0) (r : Result Reply LineFault) → RepliesToCall C r k' s b s' b' → Fits r b'
-  fits_calls C r h = rw h.reply (fits_called h.answer b')
+  fits_replies_to_call : (C : Result Unit Refusal → State → Type 0) (r : Result Reply LineFault) → RepliesToCall C r k' s b s' b' → Fits r b'
+  fits_replies_to_call C r h = rw h.reply (fits_reply_to_call h.answer b')
 
   fits_answered : (q : Request) (r : Result Reply LineFault) → Replies c R m q k r k' s b s' b' → Fits r b'
-  fits_answered (Open number n standing order) r h = fits_calls _ r h
-  fits_answered (Change x) r h = fits_calls _ r h
-  fits_answered Find r h = rw h.reply (fits_looked h.answer (call_refusal k.plain (Finding s b)) refl h.finds)
-  fits_answered DrawAndSign r h = fits_calls _ r h
+  fits_answered (Open number n standing order) r h = fits_replies_to_call _ r h
+  fits_answered (Change x) r h = fits_replies_to_call _ r h
+  fits_answered Find r h = rw h.reply (fits_reply_to_find h.answer (call_refusal k.plain (Finding s b)) refl h.finds)
+  fits_answered DrawAndSign r h = fits_replies_to_call _ r h
 
   pub fits_served : (f : Frame) (r : Result Reply LineFault) → Serves c R m f k r k' s b s' b' → Fits r b'
   fits_served f r h = fits_answered (request_of f) r h

@@ -5,7 +5,7 @@ ghost use Rattle.std.specs.Prelude.{◌≡◌};
 ghost use Rattle.casefile.specs.declared.fault.LineFault.TheVariants.{Frame as OfFrame, Case as OfCase, Finder as OfFinder};
 ghost use Rattle.casefile.specs.declared.fault.ServeFault.TheVariants.{Unread as OfUnread, Output as OfOutput};
 ghost use Rattle.frames.specs.Reports.{Printed};
-ghost use Rattle.casefile.specs.Faults.{report_of, unread_report, too_long_bytes, report_length};
+ghost use Rattle.casefile.specs.Faults.{report_of, unread_report, too_long_bytes, report_length as length_of};
 
 use deciders::DeciderFault;
 use frames::{Added, FrameFault, Refused, write_refused};
@@ -100,8 +100,8 @@ impl ReadFault {
 
     /// How many bytes the report line has that the fault leaves at the front of the buffer: 11
     /// where the text is too long, and 0 where the buffer is too short.
-    pub fn reported(&self) -> usize
-        ensures { result ≡ report_length self.now }
+    pub fn report_length(&self) -> usize
+        ensures { result ≡ length_of self.now }
     {
         match self {
             ReadFault::BufferTooShort => 0,

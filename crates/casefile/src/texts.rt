@@ -28,7 +28,7 @@ fn report_fault<W: Write>(fault: ReadFault, buffer: &[u8], output: &mut W) -> Re
         (W.contents output.old) (W.contents output.new) result }
 {
     match fault {
-        ReadFault::TextTooLong => write_line(buffer, fault.reported(), output),
+        ReadFault::TextTooLong => write_line(buffer, fault.report_length(), output),
         ReadFault::BufferTooShort => Err(ServeFault::Unread(fault)),
     }
 }

@@ -40,8 +40,8 @@ abbrev pub FoundTruly : (ℕ → Type 0) → ℕ → Task → List ℕ → List 
 FoundTruly R m p gs b (Ok (s, count, n)) = IsWaiver p b s count n
 FoundTruly R m p gs b (Err (Case e)) = Unit {0}
 FoundTruly R m p gs b (Err (Size e)) = Unit {0}
-FoundTruly R m p gs b (Err NoWaiver) = (x : ℕ) → Good p x → ⊥
-FoundTruly R m p gs b (Err (Decider (BeyondReach s j))) = (R s → ⊥) × (j ≡ m)
+FoundTruly R m p gs b (Err NoWaiver) = (x : ℕ) → ¬ Good p x
+FoundTruly R m p gs b (Err (Decider (BeyondReach s j))) = ¬ R s × (j ≡ m)
 FoundTruly R m p gs b (Err (ListFull h)) = IsFull p gs
 
 -- ---- what each call promises

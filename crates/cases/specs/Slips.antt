@@ -12,10 +12,10 @@ decision_of (Ok u) = Ok tt
 decision_of (Err (slip, e)) = Err e
 
 -- the case takes a slip that says this: it refuses neither to sign it nor to tear it
-abbrev pub Takes : Plain → SlipData → Type 0
-Takes p slip = case_refusal p (Signing slip) ≡ Ok tt
+abbrev pub Accepts : Plain → SlipData → Type 0
+Accepts p slip = case_refusal p (Signing slip) ≡ Ok tt
 
 -- The slip in hand is one that the case takes; where none is in hand, none is out.
 abbrev pub InHand : Plain → Option SlipData → Type 0
 InHand p None = p.slip_out ≡ false
-InHand p (Some slip) = Takes p slip
+InHand p (Some slip) = Accepts p slip

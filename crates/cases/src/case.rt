@@ -6,7 +6,7 @@ ghost use Rattle.deciders.specs.Reaching.{SameReach};
 ghost use Rattle.waivers.specs.Known.{Listed};
 ghost use Rattle.cases.specs.Calls.{Signing, Tearing};
 ghost use Rattle.cases.specs.Refusing.{opened_refusal, usable_refusal, case_refusal};
-ghost use Rattle.cases.specs.Slips.{decision_of, Takes};
+ghost use Rattle.cases.specs.Slips.{decision_of, Accepts};
 ghost use Rattle.cases.specs.State.{fresh, known_of, state_signed};
 ghost use Rattle.cases.specs.Finding.{Finds};
 ghost use Rattle.cases.specs.Checks.{PlanChecked};
@@ -72,7 +72,7 @@ impl Case {
     pub fn number(&self) -> u32
         ensures { result ≡ self.now.plain.number }
     {
-        self.number
+        self.number // as it was opened
     }
 
     /// The problem that is planned over: its number of facts (0 where the case is unopened), its
@@ -87,14 +87,14 @@ impl Case {
     pub fn finding(&self) -> Option<Facts>
         ensures { result ≡ self.now.plain.finding }
     {
-        self.finding
+        self.finding // none once the case has changed
     }
 
     /// Whether a slip is out, which has to be signed or torn.
     pub fn is_slip_out(&self) -> bool
         ensures { result ≡ self.now.plain.slip_out }
     {
-        self.slip_out
+        self.slip_out // until it is signed or torn
     }
 
     /// The groups that are known of the case as it stands, one bit a fact, in the order in which
@@ -265,7 +265,7 @@ impl Case {
     /// and the plan check. Refused: `Unopened`, `SlipOut`, `NoFinding`.
     pub fn draw(&mut self) -> Result<Slip, Refusal>
         ensures draws { Draws self.old result self.new }
-        ensures taken { IfOk result (λ slip. Takes self.new.plain slip) }
+        ensures accepted { IfOk result (λ slip. Accepts self.new.plain slip) }
     {
         self.check_usable()?;
         let finding = self.finding.filter(|set| *set != 0);
@@ -294,7 +294,7 @@ impl Case {
     /// Uses up the slip that is out: its set is waived for good, the finding forgotten, and the
     /// group list emptied.
     fn waive(&mut self, slip: Slip)
-        requires { Takes self.old.plain slip }
+        requires { Accepts self.old.plain slip }
         ensures after { self.new ≡ state_signed slip self.old }
         ensures plan { Solvable self.new.plain.task 0 }
     {
@@ -308,7 +308,7 @@ impl Case {
     /// the case has a plan. A refusal hands the slip back: `Unopened`, `WrongSlip`.
     pub fn sign(&mut self, slip: Slip) -> Result<(), (Slip, Refusal)>
         ensures signs { Signs slip self.old (decision_of result) self.new }
-        ensures taken { Takes self.old.plain slip → IsOk result }
+        ensures accepted { Accepts self.old.plain slip → IsOk result }
         ensures back { IfErr result (λ e. e.0 ≡ slip) }
     {
         if let Err(refusal) = self.check_slip(slip.content) {
@@ -322,7 +322,7 @@ impl Case {
     /// `WrongSlip`.
     pub fn tear(&mut self, slip: Slip) -> Result<(), (Slip, Refusal)>
         ensures tears { Tears slip self.old (decision_of result) self.new }
-        ensures taken { Takes self.old.plain slip → IsOk result }
+        ensures accepted { Accepts self.old.plain slip → IsOk result }
         ensures back { IfErr result (λ e. e.0 ≡ slip) }
     {
         match self.check_slip(slip.content) {

@@ -8,12 +8,12 @@ use Rattle.pickers.specs.Choices.{counting_choice}
 use Rattle.waivers.specs.Searching.{Choice}
 use Rattle.casefile.specs.Reporting.{Stage}
 use Rattle.casefile.specs.Chains.{ServesText}
-use Rattle.console.specs.Fresh.{Begins, ServesFresh, ServesCaseFile}
+use Rattle.console.specs.Fresh.{FreshStage, ServesFresh, ServesCaseFile}
 
 module _ {D : Type 0} (c : Choice) (reach : D → Task → ℕ → ℕ → ℕ → Type 0) (mark : ℕ) where
   pub served_fresh
       : (text : List ℕ) (room : ℕ) (d : D) (x : Stage D) (y : ℕ → ℕ → Stage D) (out out' : Option (List ℕ)) (u : Unit)
-      → ((position lines : ℕ) × ServesText c reach mark text room x (y position lines) out out' (Ok u)) → Begins d x
+      → ((position lines : ℕ) × ServesText c reach mark text room x (y position lines) out out' (Ok u)) → FreshStage d x
       → ServesFresh c reach mark d text out out'
   served_fresh text room d x y out out' u (position, lines, (enough, (report, reported, appends))) begins =
       (x, y position lines, begins, (report, reported, appends))

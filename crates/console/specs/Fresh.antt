@@ -12,8 +12,8 @@ use Rattle.casefile.specs.Reporting.{Stage}
 use Rattle.casefile.specs.Chains.{TextReport}
 
 -- no line is read yet and the case is fresh; there are 4,096 rows and as many places for a plan
-abbrev pub Begins : {D : Type 0} → D → Stage D → Type 0
-Begins d x =
+abbrev pub FreshStage : {D : Type 0} → D → Stage D → Type 0
+FreshStage d x =
     (x.position ≡ 0) × (x.lines ≡ 0) × (x.case ≡ fresh) × (x.decider ≡ d)
     × (length x.sheet ≡ 4096) × (length x.book ≡ 4096)
 
@@ -22,7 +22,7 @@ Begins d x =
 abbrev pub ServesFresh : {D : Type 0} → Choice → (D → Task → ℕ → ℕ → ℕ → Type 0) → ℕ → D → List ℕ
     → Option (List ℕ) → Option (List ℕ) → Type 0
 ServesFresh {D} c reach m d text out out' =
-    (x y : Stage D) × Begins d x × ((report : List ℕ) × TextReport c reach m text x y report
+    (x y : Stage D) × FreshStage d x × ((report : List ℕ) × TextReport c reach m text x y report
     × Appends out out' report)
 
 -- so the program serves a text: a screen over forward decides, and the counting picker picks

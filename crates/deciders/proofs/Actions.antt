@@ -6,7 +6,7 @@ use Rattle.rules.specs.Planning.{place_without}
 use Rattle.rules.specs.Listing.{Successor, with_made, expansion, listing}
 use Rattle.deciders.specs.declared.struck.Action.{Action}
 use Rattle.deciders.specs.Search.Struck.{actions_of, steps_of}
-use Rattle.deciders.specs.Search.Searches.{no_action}
+use Rattle.deciders.specs.Search.Searches.{zero_action}
 
 -- ---- one place after another
 
@@ -36,12 +36,12 @@ record Placed (i : ℕ) (ts : List (Option Step)) (w : Action) : Type 0 where
   from : i ≤ w.place
   holds : get_or ts (w.place - i) None ≡ Some w.step
 
-placed : (i : ℕ) (ts : List (Option Step)) (j : ℕ) → j < length (actions_of i ts) → Placed i ts (get_or (actions_of i ts) j no_action)
+placed : (i : ℕ) (ts : List (Option Step)) (j : ℕ) → j < length (actions_of i ts) → Placed i ts (get_or (actions_of i ts) j zero_action)
 placed i [] j h = absurd (omega arith)
 placed i (None ∷ ts) j h = let x = placed (i + 1) ts j h in grind (arith, common_steps)
 placed i (Some t ∷ ts) zero h = grind (arith, common_steps)
 placed i (Some t ∷ ts) (suc j) h = let x = placed (i + 1) ts j (omega arith) in grind (arith, common_steps)
 
-pub action_held : (ts : List (Option Step)) (j : ℕ) → j < length (actions_of 0 ts)
-    → get_or ts (get_or (actions_of 0 ts) j no_action).place None ≡ Some (get_or (actions_of 0 ts) j no_action).step
-action_held ts j h = let x = placed 0 ts j h in grind (arith, common_steps)
+pub action_at_place : (ts : List (Option Step)) (j : ℕ) → j < length (actions_of 0 ts)
+    → get_or ts (get_or (actions_of 0 ts) j zero_action).place None ≡ Some (get_or (actions_of 0 ts) j zero_action).step
+action_at_place ts j h = let x = placed 0 ts j h in grind (arith, common_steps)

@@ -11,7 +11,7 @@ use Rattle.rules.proofs.Sets.{bits, meets_or_apart, apart→, →apart, apart_wi
 use Rattle.rules.proofs.Plans.{leads→, →leads}
 use Rattle.rules.proofs.Tables.{clear_at}
 use Rattle.rules.proofs.Listing.{T→true, path_push, listed_reached, reached_listed}
-use Rattle.rules.proofs.Forwards.{forward_walks, →forward}
+use Rattle.rules.proofs.Forwards.{forward_walks, →progression}
 use Rattle.deciders.specs.declared.answer.Verdict.{Verdict}
 use Rattle.deciders.specs.declared.answer.Verdict.TheVariants as verdict
 use Rattle.deciders.specs.declared.answer.DeciderFault.{DeciderFault}
@@ -26,16 +26,16 @@ use Rattle.deciders.specs.Theorems.{subgoals, SubgoalLeads, LeadsToSubgoal, Subg
 abbrev before : Step → ℕ → ℕ
 before t w = (w ∖ t.gives) ∪ t.needs
 
-backward→ : (t : Step) (w r : ℕ) → regression t w ≡ Some r → (Meets t.takes w → ⊥) × (before t w ≡ r)
-backward→ t w r = go (shares t.gives w) (shares t.takes w) refl
+regression→ : (t : Step) (w r : ℕ) → regression t w ≡ Some r → (Meets t.takes w → ⊥) × (before t w ≡ r)
+regression→ t w r = go (shares t.gives w) (shares t.takes w) refl
   where
     go : (a b : Bool) → shares t.takes w ≡ b → cond a (cond b None (Some (before t w))) None ≡ Some r → (Meets t.takes w → ⊥) × (before t w ≡ r)
     go true true e q = cc
     go true false e q = (λ m. subst T e (test_share t.takes w m), cc)
     go false b e q = cc
 
-→backward : (t : Step) (w : ℕ) → Meets t.gives w → (Meets t.takes w → ⊥) → regression t w ≡ Some (before t w)
-→backward t w m n = ap (λ b. cond b (cond (shares t.takes w) None (Some (before t w))) None) (T→true (shares t.gives w) (test_share t.gives w m)) ∙ go (shares t.takes w) refl
+→regression : (t : Step) (w : ℕ) → Meets t.gives w → (Meets t.takes w → ⊥) → regression t w ≡ Some (before t w)
+→regression t w m n = ap (λ b. cond b (cond (shares t.takes w) None (Some (before t w))) None) (T→true (shares t.gives w) (test_share t.gives w m)) ∙ go (shares t.takes w) refl
   where
     go : (b : Bool) → shares t.takes w ≡ b → cond b None (Some (before t w)) ≡ Some (before t w)
     go true e = absurd (n (share_test t.takes w (subst T (sym e) tt)))
@@ -46,13 +46,13 @@ backward→ t w r = go (shares t.gives w) (shares t.takes w) refl
 walk_push : (p : Task) (s : ℕ) (l : List ℕ) (e i : ℕ) (t : Step) → Walk p.steps s l e → step_at p i ≡ Some t → t.needs ⊆ e → Walk p.steps s (l ++ i ∷ []) (result_of t e)
 walk_push p s l e i t on is can =
     (forward_walks p.steps s (l ++ i ∷ []) (result_of t e)).0
-    (path_push progression p.steps s s l e i t (result_of t e) ((forward_walks p.steps s l e).1 on) is (→forward t e can))
+    (path_push progression p.steps s s l e i t (result_of t e) ((forward_walks p.steps s l e).1 on) is (→progression t e can))
 
 pub back_walk : (p : Task) (l : List ℕ) (v w s : ℕ) → Path regression p.steps v l w → w ⊆ s → (e : ℕ) × Walk p.steps s (reverse l) e × (v ⊆ e)
 back_walk p [] v w s q sub = (s, refl, λ f. omega (arith, sub f, ap (λ n. bit n f) q))
 back_walk p (i ∷ l) v w s (t, is, r, makes, on) sub =
     let (e, walk, r⊆e) = back_walk p l r w s on sub in
-    let (none, q) = backward→ t v r makes in
+    let (none, q) = regression→ t v r makes in
     let apart = apart→ t.takes v none in
     let can : t.needs ⊆ e = λ f. omega (arith, bits, r⊆e f, ap (λ n. bit n f) q) in
     let has : v ⊆ result_of t e = λ f. omega (arith, bits, r⊆e f, apart f, ap (λ n. bit n f) q) in
@@ -76,7 +76,7 @@ module _ (p : Task) (sane : Consistent p) where
           before t v,
           k ++ i ∷ [],
           path_push regression p.steps p.order p.order k v i t (before t v) path is
-              (→backward t v meets (λ (f, x, y). omega (arith, bits, a f, sub f, x, y))),
+              (→regression t v meets (λ (f, x, y). omega (arith, bits, a f, sub f, x, y))),
           (λ f. omega (arith, bits, a f, sub f, can f)),
         )
         | inr none ↦ (v, k, path, (λ f. omega (arith, bits, sub f, none f)))

@@ -3,7 +3,7 @@ use Rattle.std.proofs.Common.{◌≡◌, ℕ, ◌+◌, ◌-◌, ◌<◌, ◌≤�
 use Rattle.std.proofs.lemmas.Bool.{cases_eq, false_from_ne_true}
 use Rattle.std.proofs.lemmas.Grind.{common_steps}
 use Rattle.rules.specs.Listing.{is_listed}
-use Rattle.rules.proofs.Listing.{T→true, listed→, →listed}
+use Rattle.rules.proofs.Listing.{T→true, is_listed→, →is_listed}
 use Rattle.deciders.specs.declared.row.Row.{Row}
 use Rattle.deciders.specs.Search.Rows.{row, entries}
 use Rattle.deciders.specs.Search.Chains.{hash_of, link, Indexed}
@@ -71,7 +71,7 @@ pub record Looking (l : List ℕ) (s link : ℕ) : Type 0 where
 module _ (sheet : List Row) (n s : ℕ) (fits : n ≤ length sheet) (start number : ℕ) (x : Looking (entries sheet n) s (link start number)) where
   pub missing : (start ≤ number → ⊥) → false ≡ is_listed s (entries sheet n)
   missing none = sym (false_from_ne_true (is_listed s (entries sheet n)) (λ t.
-      let (i, h, q) = listed→ s (entries sheet n) (subst T (sym t) tt) in absurd (omega (arith, x.left i h q))))
+      let (i, h, q) = is_listed→ s (entries sheet n) (subst T (sym t) tt) in absurd (omega (arith, x.left i h q))))
 
   module _ (i : ℕ) (from : start ≤ number) (is : i ≡ number - start) where
     pub in_count : i < n
@@ -98,4 +98,4 @@ module _ (sheet : List Row) (n s : ℕ) (fits : n ≤ length sheet) (start numbe
 
     pub found : (row sheet i).set ≡ s → true ≡ is_listed s (entries sheet n)
     found e = sym (T→true (is_listed s (entries sheet n))
-        (→listed s (entries sheet n) (i, omega (arith, in_count, entries_length sheet n fits), entries_at sheet n i fits in_count ∙ e)))
+        (→is_listed s (entries sheet n) (i, omega (arith, in_count, entries_length sheet n fits), entries_at sheet n i fits in_count ∙ e)))

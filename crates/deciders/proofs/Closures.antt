@@ -9,7 +9,7 @@ use Rattle.rules.specs.Planning.{Task, result_of, Leads, place_without, step_wit
 use Rattle.rules.proofs.Sets.{bits, sub_le, same_facts, inside_dec}
 use Rattle.rules.proofs.Tables.{all_gives}
 use Rattle.rules.proofs.Plans.{some_without}
-use Rattle.deciders.specs.Closures.{Under, Closed, Closure, Round}
+use Rattle.deciders.specs.Closures.{Under, ClosedUnder, Closure, Round}
 use Rattle.deciders.specs.Reaches.{ScreenedOut}
 use Rattle.deciders.specs.Theorems.{ClosureExists, ClosureUnique, ScreenedBlocked}
 
@@ -53,7 +53,7 @@ module _ (ts : List (Option Step)) where
   -- c holds what stands, and is inside every closed set
   pub record Closing (s c : ℕ) : Type 0 where
     pub holds : s ⊆ c
-    pub least : (d : ℕ) → Closed ts s d → c ⊆ d
+    pub least : (d : ℕ) → ClosedUnder ts s d → c ⊆ d
 
   pub closing_start : (s : ℕ) → Closing s s
   closing_start s = grind arith
@@ -70,7 +70,7 @@ module _ (ts : List (Option Step)) where
   -- ---- there is a closure
 
   -- a round closes the set, or makes it larger, inside every closed set
-  closing_step : (s d : ℕ) → Closed ts s d → (c : ℕ) → Closing s c → ((e : ℕ) × Closure ts s e) ⊎ ((r : ℕ) × Closing s r × (c < r) × (r ≤ d))
+  closing_step : (s d : ℕ) → ClosedUnder ts s d → (c : ℕ) → Closing s c → ((e : ℕ) × Closure ts s e) ⊎ ((r : ℕ) × Closing s r × (c < r) × (r ≤ d))
   closing_step s d z c x =
       let (r, y) = round_exists (length ts) c in
       let more = closing_more s (length ts) c r x y in
@@ -79,7 +79,7 @@ module _ (ts : List (Option Step)) where
         | inr new ↦ inr (r, more, closing_rises (length ts) c r y new, sub_le d r (more.least d z))
       ]
 
-  closing_on : (s d : ℕ) → Closed ts s d → (k c : ℕ) → Closing s c → d ≤ k + c → (e : ℕ) × Closure ts s e
+  closing_on : (s d : ℕ) → ClosedUnder ts s d → (k c : ℕ) → Closing s c → d ≤ k + c → (e : ℕ) × Closure ts s e
   closing_on s d z zero c x h = elim (closing_step s d z c x) [
     | inl found ↦ found
     | inr (r, y, up, low) ↦ absurd (omega arith)

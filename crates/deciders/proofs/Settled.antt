@@ -9,16 +9,16 @@ use Rattle.deciders.specs.declared.struck.Action.{Action}
 use Rattle.deciders.specs.declared.listing.Unsettled.{Unsettled}
 use Rattle.deciders.specs.Search.Rows.{row, entries, Sound, Climbs}
 use Rattle.deciders.specs.Search.Struck.{actions_of, steps_of}
-use Rattle.deciders.specs.Search.Searches.{no_action, ByAction, ByStep, Starts, Lists}
+use Rattle.deciders.specs.Search.Searches.{zero_action, ByAction, ByStep, Starts, Lists}
 use Rattle.deciders.proofs.Chains.{entries_length, entries_at}
-use Rattle.deciders.proofs.Actions.{listing_same, action_held}
+use Rattle.deciders.proofs.Actions.{listing_same, action_at_place}
 
 -- ---- from the actions to the steps
 
 by_step : (f : Successor) (ts : List (Option Step)) (r q : Row) → ByAction f (actions_of 0 ts) r q → ByStep f ts r q
 by_step f ts r q x =
-    let w : Action = get_or (actions_of 0 ts) x.number no_action in
-    (w.step, ap (λ (i : ℕ). get_or ts i None) (sym x.place) ∙ action_held ts x.number x.fits, x.makes)
+    let w : Action = get_or (actions_of 0 ts) x.number zero_action in
+    (w.step, ap (λ (i : ℕ). get_or ts i None) (sym x.place) ∙ action_at_place ts x.number x.fits, x.successor)
 
 module _ (f : Successor) (Goal : ℕ → Type 0) (ts : List (Option Step)) (start m : ℕ) (sheet : List Row) (n : ℕ) where
   -- ---- a row's path, read from the row up

@@ -10,7 +10,7 @@ use Rattle.deciders.specs.declared.struck.Action.{Action}
 use Rattle.deciders.specs.declared.listing.Unsettled.{Unsettled}
 use Rattle.deciders.specs.Search.Rows.{row, entries, Sound}
 use Rattle.deciders.specs.Search.Struck.{steps_of}
-use Rattle.deciders.specs.Search.Searches.{no_action, ByAction, Starts, NoGoal, Expands, Lists}
+use Rattle.deciders.specs.Search.Searches.{zero_action, ByAction, Starts, NoGoal, Expands, Lists}
 use Rattle.deciders.proofs.Chains.{entries_length, entries_at, entries_more}
 
 -- ---- a list that begins with another
@@ -24,15 +24,15 @@ sound_more : (B : Row → Row → Type 0) (start : ℕ) (sheet : List Row) (n : 
     → r.parent < n → B r (row sheet r.parent) → Sound B start (set sheet n r) (n + 1)
 sound_more B start sheet n r x some fits back by = grind (arith, common_steps)
 
-away_more : (Goal : ℕ → Type 0) (sheet : List Row) (n : ℕ) (r : Row) → n < length sheet → NoGoal Goal sheet n → (Goal r.set → ⊥)
+no_goal_more : (Goal : ℕ → Type 0) (sheet : List Row) (n : ℕ) (r : Row) → n < length sheet → NoGoal Goal sheet n → (Goal r.set → ⊥)
     → NoGoal Goal (set sheet n r) (n + 1)
-away_more Goal sheet n r fits x isnt i h w = grind (arith, common_steps, x i)
+no_goal_more Goal sheet n r fits x isnt i h w = grind (arith, common_steps, x i)
 
 -- ---- going through the actions at one entry
 
 -- an action of the list, read at itself
-pub action_at : (ws : List Action) (j : ℕ) (w : Action) → w ≡ get_or ws j w → j < length ws → w ≡ get_or ws j no_action
-action_at ws j w is h = is ∙ get_or_default ws j w no_action h
+pub action_at : (ws : List Action) (j : ℕ) (w : Action) → w ≡ get_or ws j w → j < length ws → w ≡ get_or ws j zero_action
+action_at ws j w is h = is ∙ get_or_default ws j w zero_action h
 
 pub record Going (f : Successor) (Goal : ℕ → Type 0) (ws : List Action) (start s k : ℕ) (l : List ℕ) (m : ℕ) (sheet : List Row) (n j : ℕ) : Type 0 where
   pub size : length sheet ≡ m
@@ -47,13 +47,13 @@ module _ {f : Successor} {Goal : ℕ → Type 0} {ws : List Action} {start s k :
     (x : Going f Goal ws start s k l m sheet n j) where
   module _ (h : j < length ws) where
     -- what the actions from j on make of the rows
-    on : expansion f (steps_of ws) s l ≡ expansion f (steps_of (drop (j + 1) ws)) s (with_made (f (get_or ws j no_action).step s) (entries sheet n))
-    on = x.same ∙ at_drop_more (λ v. expansion f (steps_of v) s (entries sheet n)) ws j no_action h
+    on : expansion f (steps_of ws) s l ≡ expansion f (steps_of (drop (j + 1) ws)) s (with_made (f (get_or ws j zero_action).step s) (entries sheet n))
+    on = x.same ∙ at_drop_more (λ v. expansion f (steps_of v) s (entries sheet n)) ws j zero_action h
 
-    pub going_none : f (get_or ws j no_action).step s ≡ None → Going f Goal ws start s k l m sheet n (j + 1)
+    pub going_none : f (get_or ws j zero_action).step s ≡ None → Going f Goal ws start s k l m sheet n (j + 1)
     going_none e = let y = on in grind (arith, common_steps)
 
-    module _ (r : ℕ) (e : f (get_or ws j no_action).step s ≡ Some r) where
+    module _ (r : ℕ) (e : f (get_or ws j zero_action).step s ≡ Some r) where
       pub going_seen : is_listed r (entries sheet n) ≡ true → Going f Goal ws start s k l m sheet n (j + 1)
       going_seen q = let y = on in grind (arith, common_steps)
 
@@ -65,21 +65,21 @@ module _ {f : Successor} {Goal : ℕ → Type 0} {ws : List Action} {start s k :
         pub going_full : n ≡ length sheet → (e : Unsettled) → Expands f Goal ws start s l m sheet n (Err e)
         going_full q e = let y = with_it in grind (arith, common_steps)
 
-        module _ (place : ℕ) (at : (get_or ws j no_action).place ≡ place) (room : n < length sheet) where
+        module _ (place : ℕ) (at : (get_or ws j zero_action).place ≡ place) (room : n < length sheet) where
           -- the new row
           abbrev v : Row
           v = record { set = r; parent = k; place = place }
 
           sound' : Sound (ByAction f ws) start (set sheet n v) (n + 1)
           sound' =
-              let by : ByAction f ws v (row sheet k) = record { number = j; fits = h; place = at; makes = ap (f (get_or ws j no_action).step) x.here ∙ e } in
+              let by : ByAction f ws v (row sheet k) = record { number = j; fits = h; place = at; successor = ap (f (get_or ws j zero_action).step) x.here ∙ e } in
               sound_more (ByAction f ws) start sheet n v x.sound (omega (arith, x.from)) room x.from by
 
           pub going_goal : Goal r → Expands f Goal ws start s l m (set sheet n v) (n + 1) (Ok (Some n))
           going_goal w = let y = with_it in let z = sound' in grind (arith, common_steps)
 
           pub going_more : (Goal r → ⊥) → Going f Goal ws start s k l m (set sheet n v) (n + 1) (j + 1)
-          going_more w = let y = on in let z = sound' in let a = away_more Goal sheet n v room x.away w in grind (arith, common_steps)
+          going_more w = let y = on in let z = sound' in let a = no_goal_more Goal sheet n v room x.away w in grind (arith, common_steps)
 
 -- ---- going through the entries
 

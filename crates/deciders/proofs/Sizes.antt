@@ -12,19 +12,19 @@ pub record Limits (m b : ℕ) : Type 0 where
   pub room : m ≤ b
   pub places : b ≤ 4096
 
-pub sized→ : (m b : ℕ) → WithinLimits m b → Limits m b
-sized→ m b h = grind (arith, common_steps)
+pub within→ : (m b : ℕ) → WithinLimits m b → Limits m b
+within→ m b h = grind (arith, common_steps)
 
-pub →sized : (m b : ℕ) → Limits m b → WithinLimits m b
-→sized m b h = grind (arith, common_steps)
+pub →within : (m b : ℕ) → Limits m b → WithinLimits m b
+→within m b h = grind (arith, common_steps)
 
 -- ---- what the check of the sizes says
 
 module _ (m b : ℕ) where
-  pub sized_ok : (r : Result Unit SizeFault) → r ≡ size_refusal m b → is_ok r ≡ true → WithinLimits m b
-  sized_ok (Ok u) is test = sym is
-  sized_ok (Err e) is test = cc
+  pub within_ok : (r : Result Unit SizeFault) → r ≡ size_refusal m b → is_ok r ≡ true → WithinLimits m b
+  within_ok (Ok u) is test = sym is
+  within_ok (Err e) is test = cc
 
-  pub sized_no_err : (r : Result Unit SizeFault) → r ≡ size_refusal m b → is_err r ≡ false → WithinLimits m b
-  sized_no_err (Ok u) is test = sym is
-  sized_no_err (Err e) is test = cc
+  pub within_no_err : (r : Result Unit SizeFault) → r ≡ size_refusal m b → is_err r ≡ false → WithinLimits m b
+  within_no_err (Ok u) is test = sym is
+  within_no_err (Err e) is test = cc

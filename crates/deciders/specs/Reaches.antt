@@ -29,7 +29,7 @@ BackwardReach p x m b =
 -- the order cannot stand even if no step takes anything: it is not inside the closure of the
 -- standing
 abbrev pub ScreenedOut : Task → Type 0
-ScreenedOut p = (c : ℕ) × Closure p.steps p.standing c × (p.order ⊆ c → ⊥)
+ScreenedOut p = (c : ℕ) × Closure p.steps p.standing c × ¬ (p.order ⊆ c)
 
 -- A screen settles what the decider below it settles, in its reach R, and within the size limits
 -- what it blocks itself.

@@ -1,5 +1,5 @@
 -- What is proved of the searches.
-use Rattle.std.specs.Prelude.{◌≡◌, ℕ, ◌<◌, List, reverse, length, Some, Option, slice_index, slice_index_or}
+use Rattle.std.specs.Prelude.{◌≡◌, ℕ, ◌<◌, List, reverse, length, EachIndex, Some, Option, slice_index}
 use Rattle.rules.specs.Steps.{Step}
 use Rattle.rules.specs.Sets.{◌⊆◌}
 use Rattle.rules.specs.Planning.{Task, step_at, Walk, Plan, Consistent}
@@ -17,7 +17,7 @@ subgoals p k = listing regression p.steps p.order k
 abbrev pub SubgoalLeads : Type 0
 SubgoalLeads = (p : Task) (m i : ℕ) → i < length (subgoals p m)
     → (l : List ℕ) × Path regression p.steps p.order l (slice_index (subgoals p m) i)
-    × ((s : ℕ) → slice_index_or (subgoals p m) i 0 ⊆ s
+    × ((s : ℕ) → slice_index (subgoals p m) i ⊆ s
     → (e : ℕ) × Walk p.steps s (reverse l) e × (p.order ⊆ e))
 
 -- Where no step gives a fact that it takes, a whole backward listing has a set for each standing
@@ -25,13 +25,13 @@ SubgoalLeads = (p : Task) (m i : ℕ) → i < length (subgoals p m)
 abbrev pub LeadsToSubgoal : Type 0
 LeadsToSubgoal = (p : Task) (m : ℕ) → Consistent p → Whole regression p.steps p.order m
     → (s : ℕ) (l : List ℕ) (e : ℕ) → Walk p.steps s l e → p.order ⊆ e
-    → (i : ℕ) × (i < length (subgoals p m)) × (slice_index_or (subgoals p m) i 0 ⊆ s)
+    → (i : ℕ) × (i < length (subgoals p m)) × (slice_index (subgoals p m) i ⊆ s)
 
 -- A whole backward listing with no set that stands means that no plan of any length exists.
 abbrev pub SubgoalsBlocked : Type 0
 SubgoalsBlocked = (p : Task) (m : ℕ) → Consistent p → Whole regression p.steps p.order m
-    → ((i : ℕ) → i < length (subgoals p m) → slice_index_or (subgoals p m) i 0 ⊆ p.standing → ⊥)
-    → (l : List ℕ) → Plan p l → ⊥
+    → EachIndex (subgoals p m) (λ i. ¬ (slice_index (subgoals p m) i ⊆ p.standing))
+    → (l : List ℕ) → ¬ Plan p l
 
 -- Every standing has a closure under the steps.
 abbrev pub ClosureExists : Type 0
@@ -43,7 +43,7 @@ ClosureUnique = (ts : List (Option Step)) (s c d : ℕ) → Closure ts s c → C
 
 -- An order that is not inside the closure is met by no plan of any length.
 abbrev pub ScreenedBlocked : Type 0
-ScreenedBlocked = (p : Task) → ScreenedOut p → (l : List ℕ) → Plan p l → ⊥
+ScreenedBlocked = (p : Task) → ScreenedOut p → (l : List ℕ) → ¬ Plan p l
 
 -- Going backward in the worked example C: the set {3} and the step at the place 0 give {1, 2}.
 abbrev pub BackwardExample : Type 0

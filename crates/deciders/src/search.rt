@@ -53,7 +53,7 @@ impl<'a> Listing<'a> {
         requires here { (at < self.old.count) × ((row_of self.old.rows.now at).set ≡ entry) }
         requires sound { Sound (ByAction D.successor_of struck.now.actions.items)
             (row_of self.old.rows.now 0).set self.old.rows.now self.old.count }
-        requires away { NoGoal (D.goal struck.now) self.old.rows.now self.old.count }
+        requires no_goal { NoGoal (D.goal struck.now) self.old.rows.now self.old.count }
         ensures expands { Expands D.successor_of (D.goal struck.now) struck.now.actions.items
             (row_of self.old.rows.now 0).set entry (entries self.old.rows.now self.old.count)
             (length self.old.rows.now) self.new.rows.now self.new.count result }
@@ -123,9 +123,9 @@ impl Search {
         sheet: &mut [Row],
         book: &mut [u8],
     ) -> Result<Verdict, DeciderFault>
-        ensures finds { let q = remainder problem.now strike in
-            SearchAnswers D.successor_of (D.goal q) (strike_out problem.now strike).steps (D.start_of q)
-            strike mark (length sheet.old) book.old book.new result }
+        ensures answers { let q = remainder problem.now strike in
+            SearchAnswers D.successor_of (D.goal q) (strike_out problem.now strike).steps
+            (D.start_of q) strike mark (length sheet.old) book.old book.new result }
         ensures consistent { IfOk result (λ _. Consistent problem.now) }
     {
         let fault = DeciderFault::BeyondReach { set: strike, mark };

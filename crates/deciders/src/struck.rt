@@ -35,8 +35,8 @@ impl StruckOut {
         self.standing = difference(problem.standing.facts, gone);
         self.order = difference(problem.order, gone);
         self.actions.clear();
-        for (place, held) in problem.table.places().iter().enumerate() {
-            if let Some(step) = held {
+        for (place, content) in problem.table.places().iter().enumerate() {
+            if let Some(step) = content {
                 self.actions.push(Action {
                     step: step.without(gone),
                     place: place as u8,

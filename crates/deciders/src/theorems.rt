@@ -18,7 +18,7 @@ pub fn faults_are_equal_by_set_and_mark()
 /// The backward listing finds exactly from where the order can be reached.
 pub fn backward_finds_what_leads_to_the_order()
     ensures leads { SubgoalLeads }
-    ensures found { LeadsToSubgoal }
+    ensures complete { LeadsToSubgoal }
     ensures blocked { SubgoalsBlocked }
     ensures example { BackwardExample }
 {}

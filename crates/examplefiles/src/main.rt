@@ -3,7 +3,8 @@
 
 #![tactic(auto)]
 
-ghost use Rattle.std.specs.Prelude.{◌≡◌, ◌≤◌, ◌↔◌, length, None};
+ghost use Rattle.std.specs.Prelude.{◌≡◌, ◌≤◌, ◌↔◌, [], length, Some, None, IfOk};
+ghost use Rattle.console.specs.Fresh.{ServesCaseFile};
 
 use anyhow::{Context, bail};
 use console::serve_case_file;
@@ -27,7 +28,9 @@ fn case_names(rt: &HostRuntime) -> anyhow::Result<Vec<String>> {
 }
 
 /// What the finder reports of a text.
-fn report_of(heap: Global, text: &[u8]) -> anyhow::Result<Vec<u8>> {
+fn report_of(heap: Global, text: &[u8]) -> anyhow::Result<Vec<u8>>
+    ensures { IfOk result (λ report. ServesCaseFile text.now (Some []) (Some report.items)) }
+{
     let mut output = BufWriter::new(heap, Vec::new(heap))?;
     serve_case_file(heap, text, &mut output)?;
     Ok(output.into_inner()?)
@@ -50,7 +53,7 @@ fn first_difference(report: &[u8], stored: &[u8]) -> Option<usize>
     let same = report
         .iter()
         .zip(stored)
-        .take_while(|(byte, wanted)| byte == wanted)
+        .take_while(|(byte, other)| byte == other)
         .count();
     Some(line_count(&report[..same]) + 1)
 }

@@ -41,8 +41,8 @@ impl Numbers {
 
 /// A step into some place; it seldom takes what it gives.
 fn some_put(numbers: &mut Numbers) -> Call {
-    let wanted = if numbers.some() < 32 { ORDERED } else { 0 };
-    let gives = numbers.few() | wanted;
+    let ordered = if numbers.some() < 32 { ORDERED } else { 0 };
+    let gives = numbers.few() | ordered;
     let takes = numbers.few();
     let others = difference(takes, gives);
     let takes = if numbers.some() == 0 { takes } else { others };

@@ -14,25 +14,25 @@ use Rattle.rules.proofs.Tables.{all_gives}
 
 -- ---- a step leads forward exactly where it can be done
 
-pub forward→ : (t : Step) (s r : ℕ) → progression t s ≡ Some r → (t.needs ⊆ s) × (result_of t s ≡ r)
-forward→ t s r = go (inside t.needs s) refl
+pub progression→ : (t : Step) (s r : ℕ) → progression t s ≡ Some r → (t.needs ⊆ s) × (result_of t s ≡ r)
+progression→ t s r = go (inside t.needs s) refl
   where
     go : (b : Bool) → inside t.needs s ≡ b → cond b (Some (result_of t s)) None ≡ Some r → (t.needs ⊆ s) × (result_of t s ≡ r)
     go true e q = (inside→ t.needs s (subst T (sym e) tt), cc)
     go false e q = absurd (let z : ◌≡◌ {A = ℕ} 0 1 = cc in omega arith)
 
-pub →forward : (t : Step) (s : ℕ) → t.needs ⊆ s → progression t s ≡ Some (result_of t s)
-→forward t s h = ap (λ b. cond b (Some (result_of t s)) None) (T→true (inside t.needs s) (→inside t.needs s h))
+pub →progression : (t : Step) (s : ℕ) → t.needs ⊆ s → progression t s ≡ Some (result_of t s)
+→progression t s h = ap (λ b. cond b (Some (result_of t s)) None) (T→true (inside t.needs s) (→inside t.needs s h))
 
 path→walk : (ts : List (Option Step)) (s : ℕ) (l : List ℕ) (e : ℕ) → Path progression ts s l e → Walk ts s l e
 path→walk ts s [] e q = q
 path→walk ts s (i ∷ l) e (t, is, r, leads, on) =
-    let (can, q) = forward→ t s r leads in
+    let (can, q) = progression→ t s r leads in
     (t, is, can, path→walk ts (result_of t s) l e (subst (λ x. Path progression ts x l e) (sym q) on))
 
 walk→path : (ts : List (Option Step)) (s : ℕ) (l : List ℕ) (e : ℕ) → Walk ts s l e → Path progression ts s l e
 walk→path ts s [] e q = q
-walk→path ts s (i ∷ l) e (t, is, can, on) = (t, is, result_of t s, →forward t s can, walk→path ts (result_of t s) l e on)
+walk→path ts s (i ∷ l) e (t, is, can, on) = (t, is, result_of t s, →progression t s can, walk→path ts (result_of t s) l e on)
 
 pub forward_walks : ForwardWalks
 forward_walks ts s l e = (path→walk ts s l e, walk→path ts s l e)
@@ -75,8 +75,8 @@ more_power a b c h k = omega (arith, pow_mono k)
 given_below : (ts : List (Option Step)) → (b : ℕ) × ((i : ℕ) (t : Step) → get_or ts i None ≡ Some t → t.gives < 2 ^ b)
 given_below ts = let (g, h) = all_gives ts in (g, λ i t e. omega (arith, sub_le g t.gives (h i t e), below_power g))
 
-sized : (p : Task) → (b : ℕ) × FactsBelow b p
-sized p =
+facts_bounded : (p : Task) → (b : ℕ) × FactsBelow b p
+facts_bounded p =
     let (b, h) = given_below p.steps in
     let c : ℕ = b + p.standing in
     (c, (more_power p.standing p.standing c (below_power p.standing) (omega arith), λ i t e. more_power t.gives b c (h i t e) (omega arith)))
@@ -96,6 +96,6 @@ decides p m w = elim (some_or_none p.order (standings p m)) [
 pub decided : Decided
 decided p x =
     let q : Task = strike p x in
-    let (b, z) = sized q in
+    let (b, z) = facts_bounded q in
     decides q (2 ^ b) (listing_ends progression q.steps q.standing b
     (λ l e on. walk_below b q z q.standing l e z.0 (path→walk q.steps q.standing l e on)))

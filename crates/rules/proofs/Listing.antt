@@ -18,25 +18,25 @@ T→true false h = elim h [ ]
 abbrev pub At : ℕ → List ℕ → Type 0
 At s l = (i : ℕ) × (i < length l) × (get_or l i 0 ≡ s)
 
-pub listed→ : (s : ℕ) (l : List ℕ) → T (is_listed s l) → At s l
-listed→ s [] h = elim h [ ]
-listed→ s (a ∷ l) h = go (eqb s a) refl h (listed→ s l)
+pub is_listed→ : (s : ℕ) (l : List ℕ) → T (is_listed s l) → At s l
+is_listed→ s [] h = elim h [ ]
+is_listed→ s (a ∷ l) h = go (eqb s a) refl h (is_listed→ s l)
   where
     go : (b : Bool) → eqb s a ≡ b → T (b || is_listed s l) → (T (is_listed s l) → At s l) → At s (a ∷ l)
     go true e h ih = (0, omega arith, sym (eqb→eq s a (subst T (sym e) tt)))
     go false e h ih = let (i, k, q) = ih h in (suc i, omega arith, q)
 
-pub →listed : (s : ℕ) (l : List ℕ) → At s l → T (is_listed s l)
-→listed s [] (i, h, e) = absurd (omega arith)
-→listed s (a ∷ l) (zero, h, e) = subst (λ x. T (eqb s x || is_listed s l)) (sym e) (rw (T→true (eqb s s) (eqb_refl s)) tt)
-→listed s (a ∷ l) (suc i, h, e) = elim (eqb s a) as (λ b. T (b || is_listed s l)) [ true ↦ tt | false ↦ →listed s l (i, omega arith, e) ]
+pub →is_listed : (s : ℕ) (l : List ℕ) → At s l → T (is_listed s l)
+→is_listed s [] (i, h, e) = absurd (omega arith)
+→is_listed s (a ∷ l) (zero, h, e) = subst (λ x. T (eqb s x || is_listed s l)) (sym e) (rw (T→true (eqb s s) (eqb_refl s)) tt)
+→is_listed s (a ∷ l) (suc i, h, e) = elim (eqb s a) as (λ b. T (b || is_listed s l)) [ true ↦ tt | false ↦ →is_listed s l (i, omega arith, e) ]
 
 pub at_or_not : (s : ℕ) (l : List ℕ) → At s l ⊎ (At s l → ⊥)
 at_or_not s l = go (is_listed s l) refl
   where
     go : (b : Bool) → is_listed s l ≡ b → At s l ⊎ (At s l → ⊥)
-    go true e = inl (listed→ s l (subst T (sym e) tt))
-    go false e = inr (λ h. subst T e (→listed s l h))
+    go true e = inl (is_listed→ s l (subst T (sym e) tt))
+    go false e = inr (λ h. subst T e (→is_listed s l h))
 
 -- l' begins with l
 pub record Begins (l l' : List ℕ) : Type 0 where
@@ -76,7 +76,7 @@ pub at_with_entry : (s : ℕ) (l : List ℕ) → At s (with_entry s l)
 at_with_entry s l = (elim (is_listed s l) as (λ b. (T b → At s l) → At s (cond b l (l ++ s ∷ []))) [
   | true ↦ (λ h. h tt)
   | false ↦ (λ h. at_end s l)
-]) (listed→ s l)
+]) (is_listed→ s l)
 
 pub from_with_entry : (a s : ℕ) (l : List ℕ) → At a (with_entry s l) → At a l ⊎ (s ≡ a)
 from_with_entry a s l = elim (is_listed s l) as (λ b. At a (cond b l (l ++ s ∷ [])) → At a l ⊎ (s ≡ a)) [
@@ -114,7 +114,7 @@ pub apart_with_entry : (s : ℕ) (l : List ℕ) → Apart l → Apart (with_entr
 apart_with_entry s l apart = (elim (is_listed s l) as (λ b. (At s l → T b) → Apart (cond b l (l ++ s ∷ []))) [
   | true ↦ (λ h. apart)
   | false ↦ (λ h. apart_push l s h apart)
-]) (→listed s l)
+]) (→is_listed s l)
 
 apart_made : (o : Option ℕ) (l : List ℕ) → Apart l → Apart (with_made o l)
 apart_made None l h = h

@@ -31,5 +31,5 @@ pub record WorkedExamples : Type 0 where
   pub without_2_plan : Plan (strike C 0b0100) (0 ∷ [])
   pub group_0_2 : Group C 0b0101
   pub met_by_2 : MinimumHittingSet (0b0101 ∷ 0b1100 ∷ []) 0b0100
-  pub empty_unmet : (h : ℕ) → Hits (0b0101 ∷ 0 ∷ []) h → ⊥
-  pub hopeless : (x : ℕ) → Good Hopeless x → ⊥
+  pub empty_unmet : (h : ℕ) → ¬ Hits (0b0101 ∷ 0 ∷ []) h
+  pub hopeless : (x : ℕ) → ¬ Good Hopeless x

@@ -40,8 +40,7 @@ listing f ts start (suc k) =
 abbrev pub Whole : Successor → List (Option Step) → ℕ → ℕ → Type 0
 Whole f ts start m = length (listing f ts start m) ≤ m
 
--- m rows settle it: the whole listing has at most m entries, or a goal is among
--- the first m
+-- m rows settle it: the whole listing has at most m entries, or a goal is among the first m
 abbrev pub Settles : Successor → List (Option Step) → ℕ → (ℕ → Type 0) → ℕ → Type 0
 Settles f ts start Goal m =
     Whole f ts start m

@@ -65,7 +65,7 @@ Solvable p x = (l : List ℕ) × Plan (strike p x) l
 
 -- with x struck out there is no plan of any length
 abbrev pub Blocked : Task → ℕ → Type 0
-Blocked p x = Solvable p x → ⊥
+Blocked p x = ¬ Solvable p x
 
 -- no step of the task gives a fact that it takes
 abbrev pub Consistent : Task → Type 0

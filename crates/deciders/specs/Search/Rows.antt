@@ -1,10 +1,7 @@
 -- The rows of a sheet.
 use Rattle.std.specs.Prelude.{◌≡◌, ℕ, ◌<◌, ◌≤◌, List, [], ◌∷◌, map, length, take, slice_index_or}
 use Rattle.deciders.specs.declared.row.Row.{Row}
-
--- what stands past the last row
-abbrev pub zero_row : Row
-zero_row = record { set = 0; parent = 0; place = 0 }
+use Rattle.deciders.specs.Sheets.{zero_row}
 
 -- the row i of a sheet
 abbrev pub row : List Row → ℕ → Row

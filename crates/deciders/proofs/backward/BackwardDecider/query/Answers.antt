@@ -6,4 +6,4 @@ pub returns-clause-answer : goal.returns-clause-answer
 returns-clause-answer c =
     let s = c.args in
     backward_answers s.problem.now s.strike (length s.sheet.now) 66 s.book.now c.answer.new.book c.answer.result
-    c.answer.ensures.consistent c.answer.ensures.finds
+    c.answer.ensures.consistent c.answer.ensures.answers
