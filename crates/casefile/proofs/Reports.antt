@@ -17,7 +17,7 @@ use Rattle.frames.proofs.ReportLines.{length_line}
 use Rattle.cases.specs.State.{State}
 use Rattle.cases.specs.Calls.{Finding, FindAnswer}
 use Rattle.cases.specs.Refusing.{case_refusal, of_case, of_size, call_refusal}
-use Rattle.cases.specs.Finding.{answer_to, FindsUnless}
+use Rattle.cases.specs.Finding.{answer_of, FindsUnless}
 use Rattle.cases.proofs.Refused.{both_made}
 use Rattle.casefile.specs.declared.request.Request.{Request}
 use Rattle.casefile.specs.declared.request.Request.TheVariants.{Open, Change, Find, DrawAndSign}
@@ -41,7 +41,7 @@ sizes_fit o rows places made = let sizes = (both_made (of_case o) (of_size (size
 
 module _ (c : Choice) (R : ℕ → Type 0) (m : ℕ) (k k' : State) (s s' : List Row) (b b' : List ℕ) where
   fits_found : (f : Result GoodSet FinderFault) (p : Task) (gs : List ℕ) → Ended c R m (length s) p gs f b' → (length s ≤ 4096) × (length s ≤ length b')
-      → Fits (reply_to_find (answer_to f)) b'
+      → Fits (reply_to_find (answer_of f)) b'
   fits_found (Ok f) p gs e (few, room) = (omega (arith, e.fits), omega (arith, e.fits))
   fits_found (Err e) p gs ended sizes = tt
 

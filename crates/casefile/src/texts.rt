@@ -34,8 +34,8 @@ fn report_fault<W: Write>(fault: ReadFault, buffer: &[u8], output: &mut W) -> Re
 }
 
 /// Serves a text: reads its lines to its end, makes the call that each asks for, and writes the
-/// report line of each; or writes the one report line of a text that is too long. The buffer is
-/// free afterwards, and the writer is not flushed.
+/// report line of each; or writes the one report line of a text that is too long. What the buffer
+/// then holds is not said, and the writer is not flushed.
 ///
 /// A report buffer of fewer than 8,209 bytes is refused, and nothing is read or written. Where the
 /// writer fails, its error ends the text: some of its lines were served, and what the writer then

@@ -21,7 +21,7 @@ use Rattle.cases.specs.Plain.{Plain, unopened}
 use Rattle.cases.specs.Calls.{Asked, Opening, Changing, Finding, Drawing, Signing, Tearing, AnswerTo, Entry, FindAnswer}
 use Rattle.cases.specs.Refusing.{usable_refusal, case_refusal, of_case, of_size, call_refusal, slip_of}
 use Rattle.cases.specs.State.{State, known_of, state_opened, state_changed, state_signed, state_with_slip}
-use Rattle.cases.specs.Finding.{answer_to, FindsUnless}
+use Rattle.cases.specs.Finding.{answer_of, FindsUnless}
 use Rattle.cases.specs.Making.{Makes, Made, unmade, then}
 use Rattle.cases.specs.Replay.{draw_refusal, find_refusal, effect_of, plain_after, after_calls}
 use Rattle.cases.specs.Law.{FoundTruly, Keeps, none, more, Law}
@@ -76,7 +76,7 @@ module _ (c : Choice) (R : Task → ℕ → ℕ → ℕ → Type 0) (m : ℕ) (k
 
   -- what the search found is true
   truly : (f : Result GoodSet FinderFault) → Ended c In m (length s) k.plain.task k'.groups f a.book → length s ≤ length b → length a.book ≡ length b
-      → Listed (record { task = k.plain.task; groups = k'.groups }) → FoundTruly In m k.plain.task k'.groups a.book (answer_to f)
+      → Listed (record { task = k.plain.task; groups = k'.groups }) → FoundTruly In m k.plain.task k'.groups a.book (answer_of f)
   truly (Ok f) e roomy same l = record { good = e.good; counted = refl; fits = omega (arith, e.fits); plan = e.plan; fewest = e.smallest }
   truly (Err (Case r)) e roomy same l = tt
   truly (Err (Size r)) e roomy same l = tt
@@ -88,7 +88,7 @@ module _ (c : Choice) (R : Task → ℕ → ℕ → ℕ → Type 0) (m : ℕ) (k
   truly (Err (ListFull h)) e roomy same l = record { full = e.full; met = all_met k.plain.task k'.groups l }
 
   -- and it is no refusal
-  no_refusal : (f : Result GoodSet FinderFault) → Ended c In m (length s) k.plain.task k'.groups f a.book → find_refusal (answer_to f) ≡ Ok tt
+  no_refusal : (f : Result GoodSet FinderFault) → Ended c In m (length s) k.plain.task k'.groups f a.book → find_refusal (answer_of f) ≡ Ok tt
   no_refusal (Ok f) e = refl
   no_refusal (Err (Case r)) e = absurd e
   no_refusal (Err (Size r)) e = absurd e

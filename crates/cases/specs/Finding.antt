@@ -11,9 +11,9 @@ use Rattle.cases.specs.Refusing.{call_refusal}
 use Rattle.cases.specs.State.{State, known_of, plain_found}
 
 -- find's answer to what its search found: the set, how many facts it has, and the plan's length
-abbrev pub answer_to : Result GoodSet FinderFault → Result (ℕ × ℕ × ℕ) FinderFault
-answer_to (Ok f) = Ok (f.«set», size f.«set», f.length)
-answer_to (Err e) = Err e
+abbrev pub answer_of : Result GoodSet FinderFault → Result (ℕ × ℕ × ℕ) FinderFault
+answer_of (Ok f) = Ok (f.«set», size f.«set», f.length)
+answer_of (Err e) = Err e
 
 -- what an answer leaves as the finding: its set, or nothing
 abbrev pub found_set : Result (ℕ × ℕ × ℕ) FinderFault → Option ℕ
@@ -27,7 +27,7 @@ pub record FindsBySearch (c : Choice) (R : ℕ → Type 0) (m : ℕ) (k : State)
     (s : List Row) (b : List ℕ) (a : FindAnswer) (k' : State) : Type 0 where
   pub found : Result GoodSet FinderFault
   pub searches : Searches c R m (length s) (known_of k) found (known_of k') a.book
-  pub answer : a.result ≡ answer_to found
+  pub answer : a.result ≡ answer_of found
   pub plain : k'.plain ≡ plain_found (found_set a.result) k.plain
   pub rows : a.sheet ≡ zero_rows (length s)
   pub places : IsWipedFrom (plan_length found) a.book

@@ -1,4 +1,6 @@
--- The law over every list of calls.
+-- The law over every list of calls. Throughout c is the picker's choice, reach the decider's reach, m
+-- its mark, first the decider as it was before the first call and d as it is then; k is what the
+-- program's case holds, p a plain case, x a call, and es the calls so far with their answers.
 use Rattle.std.specs.Prelude.{◌≡◌, ℕ, ◌≤◌, List, [], ◌∷◌, ◌++◌, length, take, Ok, Err, IfOk, Result}
 use Rattle.rules.specs.Sets.{size}
 use Rattle.rules.specs.Planning.{Task, Plan, strike, Solvable}

@@ -25,7 +25,8 @@ pub trait Decider {
     // without the facts of x
     ghost reach: { Self → Task → ℕ → ℕ → ℕ → Type 0 };
 
-    /// Whether the problem has a plan without the facts of `strike`. The rows are free afterwards.
+    /// Whether the problem has a plan without the facts of `strike`. What the rows hold
+    /// afterwards is not said.
     // Sheet and book are two slices of the caller's, each of its own size: a rule of the project.
     fn query(
         &mut self,

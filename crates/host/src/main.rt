@@ -23,8 +23,9 @@ fn waive_fewest(case: &mut Case, book: &mut [u8]) -> Result<(Facts, u16), Finder
     let mut sheet = [Row::default(); 16];
     let (set, _, length) = case.find(&mut decider, &CountingPicker, &mut sheet, book)?;
     let slip = case.draw()?;
+    // named first, since a result that may hold a slip can't be let go unnamed
     let signed = case.sign(slip);
-    // the case takes the slip that it has just drawn
+    // the case accepts the slip that it has just drawn
     let Ok(()) = signed else { unreachable!() };
     Ok((set, length))
 }
@@ -35,6 +36,7 @@ fn main(rt: HostRuntime) -> anyhow::Result<()> {
     if let Err(refusal) = open(&mut case) {
         let number = refusal.number();
         println!(rt; "not opened: refusal {number}")?;
+        return Ok(());
     }
     match waive_fewest(&mut case, &mut book) {
         Err(fault) => {
