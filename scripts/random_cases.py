@@ -4,37 +4,21 @@ A family is a function that gets a random source and answers the bytes of one ca
 that every set of facts can be tried, but its facts may lie anywhere among 32, its steps in any of the 64 places, and
 its digits may be of either case. The same seed and index give the same file.
 """
+from __future__ import annotations
+
 import random
+from collections.abc import Callable, Iterable, Sequence
 from itertools import combinations
-from typing import Callable, NamedTuple
+from typing import NamedTuple
 
-PLACES = 64
-TEXT_LIMIT = 16384
-FIND = "09"
-SIGN = "0A"
-NOTHING = 0
-
+from casefiles import (CANCEL, CARRY, FIND_LINE, GRANT, LAPSE, ORDER, PLACES, SIGN_LINE, TEXT_LIMIT, WITHDRAW,
+                       open_line, place_line, put_line, set_line)
+from facts import union
 
 # Lines
 
 
-def open_line(facts, standing, order, number=42):
-    return f"01{number:08X}{facts:02X}{standing:08X}{order:08X}"
-
-
-def put_line(place, needs, gives, takes=NOTHING):
-    return f"02{place:02X}{needs:08X}{gives:08X}{takes:08X}"
-
-
-def set_line(kind, facts):
-    return f"{kind:02X}{facts:08X}"
-
-
-def place_line(kind, place):
-    return f"{kind:02X}{place:02X}"
-
-
-def in_any_case(rng, line):
+def in_any_case(rng: random.Random, line: str) -> str:
     """The same digits, some of them small: in most lines none, in some all, in some a mixture."""
     style = rng.random()
     if style < 0.7:
@@ -44,7 +28,7 @@ def in_any_case(rng, line):
     return "".join(rng.choice((c.lower(), c)) for c in line)
 
 
-def text_of(rng, lines):
+def mixed_text(rng: random.Random, lines: Iterable[str]) -> bytes:
     """The lines as a text, whose last line may lack its line feed."""
     text = "\n".join(in_any_case(rng, line) for line in lines)
     return (text + rng.choice(("\n", "\n", ""))).encode("latin-1")
@@ -53,11 +37,7 @@ def text_of(rng, lines):
 # Sets
 
 
-def union(facts):
-    return sum(1 << f for f in set(facts))
-
-
-def random_set(rng, facts, most):
+def random_set(rng: random.Random, facts: Sequence[int], most: int) -> int:
     """A set of at most so many of these facts."""
     return union(rng.sample(facts, rng.randint(0, min(most, len(facts)))))
 
@@ -65,7 +45,7 @@ def random_set(rng, facts, most):
 class Layout:
     """A number of facts, some of which are in use, and places in a random order."""
 
-    def __init__(self, rng, used):
+    def __init__(self, rng: random.Random, used: int) -> None:
         self.facts = rng.choice((used, used, rng.randint(used, 32), 32))
         self.used = rng.sample(range(self.facts), used)
         if rng.random() < 0.5:
@@ -74,35 +54,38 @@ class Layout:
         if rng.random() < 0.3:
             self.places.sort()
 
-    def set_of(self, indices):
+    def set_of(self, indices: Iterable[int]) -> int:
         return union(self.used[i] for i in indices)
 
-    def put(self, needs, gives, takes=()):
+    def put(self, needs: Iterable[int], gives: Iterable[int], takes: Iterable[int] = ()) -> str:
         """A line that puts a step into the next free place."""
         return put_line(self.places.pop(0), self.set_of(needs), self.set_of(gives), self.set_of(takes))
 
-    def open(self, standing, order):
+    def open(self, standing: Iterable[int], order: Iterable[int]) -> str:
         return open_line(self.facts, self.set_of(standing), self.set_of(order))
 
 
-def random_step(rng, facts, most_needs=3):
+def random_step(rng: random.Random, facts: Sequence[int], most_needs: int = 3) -> tuple[int, int, int]:
     """Needs, gives and takes of a step that the case accepts."""
     gives = random_set(rng, facts, 2)
     return random_set(rng, facts, most_needs), gives, random_set(rng, facts, 2) & ~gives
 
 
-def random_change(rng, facts, taken):
+def random_change(rng: random.Random, facts: Sequence[int], taken: Sequence[int]) -> str:
     """A line that changes an opened case, by one of the calls for sets and places."""
-    kind = rng.choice((3, 4, 5, 6, 7, 8, 8))
-    if kind <= 6:
+    kind = rng.choice((GRANT, LAPSE, ORDER, CANCEL, WITHDRAW, CARRY, CARRY))
+    if kind <= CANCEL:
         return set_line(kind, random_set(rng, facts, 2))
     return place_line(kind, rng.choice(taken) if taken and rng.random() < 0.9 else rng.randrange(256))
 
 
 # Families
 
+# An open line, the lines of steps, their facts, and the free places.
+Blocks = tuple[str, list[str], list[int], list[int]]
 
-def mixed(rng):
+
+def mixed(rng: random.Random) -> bytes:
     """Calls of every kind, few facts, some of them refused."""
     count = rng.randint(1, 7)
     facts = list(range(count))
@@ -116,11 +99,11 @@ def mixed(rng):
     lines.append(put_line(taken[0], union(rng.sample(facts, min(count, rng.randint(1, 3)))), order))
     for _ in range(rng.randint(3, 24)):
         lines.append(random_call(rng, rng.choice((facts, facts, loose)), taken))
-        lines += [SIGN] if lines[-1] == FIND and rng.random() < 0.3 else []
-    return text_of(rng, lines + [FIND])
+        lines += [SIGN_LINE] if lines[-1] == FIND_LINE and rng.random() < 0.3 else []
+    return mixed_text(rng, lines + [FIND_LINE])
 
 
-def random_call(rng, facts, taken):
+def random_call(rng: random.Random, facts: Sequence[int], taken: list[int]) -> str:
     """One line of any kind; the places of steps are noted as taken."""
     roll = rng.random()
     if roll < 0.45:
@@ -129,23 +112,23 @@ def random_call(rng, facts, taken):
         taken.append(place)
         return put_line(place, needs, gives, takes if rng.random() < 0.95 else takes | gives)
     if roll < 0.65:
-        return FIND
+        return FIND_LINE
     if roll < 0.97:
         return random_change(rng, facts, taken)
-    return rng.choice((SIGN, open_line(5, 1, 2), "0B"))
+    return rng.choice((SIGN_LINE, open_line(5, 1, 2), "0B"))
 
 
-def wrong_lines(rng):
+def wrong_lines(rng: random.Random) -> bytes:
     """Lines that are no frame, between lines that are."""
     facts = list(range(4))
-    good = [open_line(4, 2, 8), put_line(1, 1, 4), put_line(0, 6, 8, 2), FIND]
+    good = [open_line(4, 2, 8), put_line(1, 1, 4), put_line(0, 6, 8, 2), FIND_LINE]
     lines = list(good) if rng.random() < 0.7 else []
     for _ in range(rng.randint(1, 25)):
         lines.insert(rng.randint(0, len(lines)), wrong_line(rng, random_call(rng, facts, [])))
-    return text_of(rng, lines)
+    return mixed_text(rng, lines)
 
 
-def wrong_line(rng, line):
+def wrong_line(rng: random.Random, line: str) -> str:
     """A line spoiled in one of many ways."""
     at = rng.randrange(len(line))
     character = rng.choice((" ", "\r", "\t", "\0", "g", "G", "x", "/", ":", "@", "`", "\x7f", "\x80", "\xb2", "\xff"))
@@ -156,7 +139,7 @@ def wrong_line(rng, line):
         line[:2], line * 2, "0" * rng.randint(1, 400), "09" * rng.randint(1, 300), "0" + line, line.lower()))
 
 
-def odd_texts(rng):
+def odd_texts(rng: random.Random) -> bytes:
     """Texts at the limits: empty, line feeds only, bytes of any value, or as long as allowed."""
     choice = rng.randrange(8)
     if choice == 0:
@@ -169,16 +152,16 @@ def odd_texts(rng):
     return filled_text(rng, rng.choice((TEXT_LIMIT - 1, TEXT_LIMIT, TEXT_LIMIT)))
 
 
-def too_long(rng):
+def too_long(rng: random.Random) -> bytes:
     """Texts that are longer than allowed, by one byte or by many."""
     return filled_text(rng, TEXT_LIMIT + rng.choice((1, 1, 1, 2, rng.randint(3, 20000), 50000)))
 
 
-def small_case():
-    return "\n".join((open_line(4, 2, 8), put_line(1, 1, 4), put_line(0, 6, 8, 2), FIND, "")).encode()
+def small_case() -> bytes:
+    return "\n".join((open_line(4, 2, 8), put_line(1, 1, 4), put_line(0, 6, 8, 2), FIND_LINE, "")).encode()
 
 
-def filled_text(rng, length):
+def filled_text(rng: random.Random, length: int) -> bytes:
     """A small case, filled up to this length with line feeds, short lines or one long line."""
     front = small_case()
     if rng.random() < 0.6:
@@ -188,7 +171,7 @@ def filled_text(rng, length):
     return front + b"A" * (length - len(front) - len(end)) + end
 
 
-def needs_waived(rng):
+def needs_waived(rng: random.Random) -> bytes:
     """A chain to the order for which at least k facts are missing, beside steps that give some others."""
     missing, present = rng.randint(0, 5), rng.randint(0, 2)
     layout = Layout(rng, missing + present + 2)
@@ -202,30 +185,30 @@ def needs_waived(rng):
         needs = rng.sample(facts[:-1], min(len(facts) - 1, rng.randint(1, 3)))
         lines.append(layout.put(needs, gives, [f for f in rng.sample(facts, 1) if f not in gives]))
     rng.shuffle(lines)
-    return text_of(rng, [layout.open(facts[missing:missing + present], [order])] + lines + [FIND, FIND])
+    return mixed_text(rng, [layout.open(facts[missing:missing + present], [order])] + lines + [FIND_LINE, FIND_LINE])
 
 
-def some_of_many(rng):
+def some_of_many(rng: random.Random) -> bytes:
     """Facts that never stand; each step needs another few of them and gives the order."""
     many, few = rng.choice(((7, 4), (7, 4), (7, 3), (6, 3), (6, 4), (5, 3), (6, 2)))
     layout = Layout(rng, many + 1)
     lines = [layout.put(needs, [many]) for needs in combinations(range(many), few)]
     rng.shuffle(lines)
     dropped = rng.choice((0, 0, 1, 2, len(lines) // 2))
-    return text_of(rng, [layout.open([], [many])] + lines[dropped:] + [FIND] * rng.randint(1, 3))
+    return mixed_text(rng, [layout.open([], [many])] + lines[dropped:] + [FIND_LINE] * rng.randint(1, 3))
 
 
-def near_64_groups(rng):
+def near_64_groups(rng: random.Random) -> bytes:
     """Cases that want about 64 groups: steps for five of eight facts each, of which all 56 want 70, or three routes."""
     opening, steps, facts, places = five_of_eight(rng) if rng.random() < 0.7 else three_routes(rng)
-    early = [FIND] if rng.random() < 0.3 else []
-    later = []
+    early = [FIND_LINE] if rng.random() < 0.3 else []
+    later: list[str] = []
     for _ in range(rng.randint(0, 3)):
-        later += rng.choice(([FIND], [random_change(rng, facts, places), FIND], [SIGN, FIND]))
-    return text_of(rng, [opening] + steps[:-1] + early + steps[-1:] + [FIND] + later)
+        later += rng.choice(([FIND_LINE], [random_change(rng, facts, places), FIND_LINE], [SIGN_LINE, FIND_LINE]))
+    return mixed_text(rng, [opening] + steps[:-1] + early + steps[-1:] + [FIND_LINE] + later)
 
 
-def five_of_eight(rng):
+def five_of_eight(rng: random.Random) -> Blocks:
     """Eight facts that never stand; most of the steps for five of them."""
     layout = Layout(rng, 9)
     steps = [layout.put(needs, [8]) for needs in combinations(range(8), 5)]
@@ -234,13 +217,14 @@ def five_of_eight(rng):
     return layout.open([], [8]), steps[rng.choice((0, 0, 1, 1, 2, 2, 3, 6)):], layout.used, places
 
 
-def three_routes(rng):
+def three_routes(rng: random.Random) -> Blocks:
     """Three steps, each with three or four needs that never stand: one need of each step makes a group."""
     widths = rng.choice(((4, 4, 4), (4, 4, 4), (4, 4, 3), (4, 3, 3)))
     layout = Layout(rng, sum(widths) + 1)
     facts = list(range(sum(widths)))
     rng.shuffle(facts)
-    steps, at = [], 0
+    steps: list[str] = []
+    at = 0
     for width in widths:
         steps.append(layout.put(facts[at:at + width], [len(facts)]))
         at += width
@@ -248,7 +232,7 @@ def three_routes(rng):
     return layout.open([], [len(facts)]), steps, layout.used, places
 
 
-def long_plans(rng):
+def long_plans(rng: random.Random) -> bytes:
     """A binary counter, whose digit i has one fact for 0 and one for 1.
 
     The order is its last value, or a fact that its last value and a lacking fact give, or both facts of a digit, which
@@ -259,15 +243,15 @@ def long_plans(rng):
     zeros, ones = list(range(digits)), list(range(digits, 2 * digits))
     lacking, goal = 2 * digits, 2 * digits + 1
     lines = [layout.put([zeros[i]] + ones[:i], [ones[i]] + zeros[:i], [zeros[i]] + ones[:i]) for i in range(digits)]
-    order, needs = rng.choice(((ones, None), ([goal], ones + [lacking]),
-                               ([zeros[0], ones[0]], None), ([zeros[0], ones[0]], ones)))
+    order, needs = rng.choice(((ones, []), ([goal], ones + [lacking]),
+                               ([zeros[0], ones[0]], []), ([zeros[0], ones[0]], ones)))
     if needs:
         lines.append(layout.put(needs, [goal]))
     rng.shuffle(lines)
-    return text_of(rng, [layout.open(zeros, order)] + lines + [FIND] * rng.randint(1, 2))
+    return mixed_text(rng, [layout.open(zeros, order)] + lines + [FIND_LINE] * rng.randint(1, 2))
 
 
-def beyond_reach(rng):
+def beyond_reach(rng: random.Random) -> bytes:
     """Free facts that are switched on and off, and an order that wants two facts of which each ousts the other.
 
     In some files the switches need a key that doesn't stand: then the case is small until the key is struck out. In
@@ -284,13 +268,13 @@ def beyond_reach(rng):
     needs = [left, right] + [lacking] * rng.randint(0, 1) + list(range(rng.choice((0, 0, 1))))
     lines = on + off + pair + [layout.put(needs, [goal])]
     rng.shuffle(lines)
-    later = [FIND] * rng.randint(0, 1)
+    later = [FIND_LINE] * rng.randint(0, 1)
     if rng.random() < 0.3:
-        later += [place_line(7, int(line[2:4], 16)) for line in rng.sample(on, 2)] + [FIND]
-    return text_of(rng, [layout.open([], [goal])] + lines + [FIND] + later)
+        later += [place_line(WITHDRAW, int(line[2:4], 16)) for line in rng.sample(on, 2)] + [FIND_LINE]
+    return mixed_text(rng, [layout.open([], [goal])] + lines + [FIND_LINE] + later)
 
 
-def none_exists(rng):
+def none_exists(rng: random.Random) -> bytes:
     """An ordered fact that no step gives, or that another ordered fact ousts; in some files a step then gives it."""
     layout = Layout(rng, rng.randint(2, 8))
     facts = list(range(len(layout.used)))
@@ -303,26 +287,26 @@ def none_exists(rng):
     if ousting:
         lines += [layout.put(others[:2], [first], [second]), layout.put(others[1:3], [second], [first])]
     opening = layout.open(rng.sample(others, len(others) // 2), [first, second] if ousting else [first])
-    rescue = [layout.put(others[:2], [first]), FIND] if rng.random() < 0.5 else []
-    return text_of(rng, [opening] + lines + [FIND, FIND] + rescue)
+    rescue = [layout.put(others[:2], [first]), FIND_LINE] if rng.random() < 0.5 else []
+    return mixed_text(rng, [opening] + lines + [FIND_LINE, FIND_LINE] + rescue)
 
 
-def repeated_finds(rng):
+def repeated_finds(rng: random.Random) -> bytes:
     """Find after each of many changes, so that listed groups outlive them."""
     layout = Layout(rng, rng.randint(4, 8))
     facts = layout.used
     order = union(rng.sample(facts, 1))
     lines = [open_line(layout.facts, random_set(rng, facts, 1), order)]
-    taken = []
+    taken: list[int] = []
     for _ in range(rng.randint(3, 10)):
         lines.append(blocked_step(rng, layout, taken))
     for _ in range(rng.randint(3, 12)):
-        lines += [FIND, SIGN] if rng.random() < 0.1 else [FIND]
+        lines += [FIND_LINE, SIGN_LINE] if rng.random() < 0.1 else [FIND_LINE]
         lines.append(blocked_step(rng, layout, taken) if rng.random() < 0.2 else random_change(rng, facts, taken))
-    return text_of(rng, lines + [FIND, FIND])
+    return mixed_text(rng, lines + [FIND_LINE, FIND_LINE])
 
 
-def carried_steps(rng):
+def carried_steps(rng: random.Random) -> bytes:
     """Steps of which many can be carried out, among finds and other changes that keep the listed groups."""
     layout = Layout(rng, rng.randint(4, 8))
     facts = layout.used
@@ -333,32 +317,33 @@ def carried_steps(rng):
         needs, gives, takes = random_step(rng, facts, rng.choice((1, 1, 4)))
         lines.append(put_line(place, needs, gives & ~order if rng.random() < 0.5 else gives, takes))
     for _ in range(rng.randint(4, 16)):
-        change = place_line(8, rng.choice(taken)) if rng.random() < 0.6 else random_change(rng, facts, taken)
-        lines += [FIND, change] if rng.random() < 0.6 else [change]
-    return text_of(rng, lines + [FIND])
+        change = place_line(CARRY, rng.choice(taken)) if rng.random() < 0.6 else random_change(rng, facts, taken)
+        lines += [FIND_LINE, change] if rng.random() < 0.6 else [change]
+    return mixed_text(rng, lines + [FIND_LINE])
 
 
-def slips(rng):
+def slips(rng: random.Random) -> bytes:
     """Slips signed one after another, with and without a finding, and calls on the waived facts between."""
     layout = Layout(rng, rng.randint(6, 9))
     goals, papers = layout.used[:3], layout.used[3:]
-    lines = [open_line(layout.facts, random_set(rng, papers, 1), 1 << goals[0])] + [SIGN] * rng.choice((0, 0, 1))
-    taken = []
+    lines = [open_line(layout.facts, random_set(rng, papers, 1), 1 << goals[0])] + [SIGN_LINE] * rng.choice((0, 0, 1))
+    taken: list[int] = []
     for goal in goals + rng.sample(layout.used, 2):
         needs = rng.sample(papers, rng.randint(1, 3))
         takes = random_set(rng, papers, 1) & ~(1 << goal)
         taken.append(layout.places.pop(0))
         lines.append(put_line(taken[-1], union(needs), 1 << goal, takes))
     for goal in rng.sample(goals, 3):
-        lines.append(FIND)
+        lines.append(FIND_LINE)
         lines += [random_change(rng, papers, taken)] if rng.random() < 0.15 else []
-        lines += rng.choice(([SIGN], [SIGN], [SIGN, FIND], [SIGN, SIGN], [SIGN, FIND, SIGN]))
+        lines += rng.choice(([SIGN_LINE], [SIGN_LINE], [SIGN_LINE, FIND_LINE], [SIGN_LINE, SIGN_LINE],
+                             [SIGN_LINE, FIND_LINE, SIGN_LINE]))
         lines += [random_change(rng, papers, taken)] if rng.random() < 0.5 else []
-        lines.append(set_line(5, 1 << (goal if rng.random() < 0.7 else rng.choice(papers))))
-    return text_of(rng, lines + [FIND, SIGN, FIND])
+        lines.append(set_line(ORDER, 1 << (goal if rng.random() < 0.7 else rng.choice(papers))))
+    return mixed_text(rng, lines + [FIND_LINE, SIGN_LINE, FIND_LINE])
 
 
-def blocked_step(rng, layout, taken):
+def blocked_step(rng: random.Random, layout: Layout, taken: list[int]) -> str:
     """A step with more needs than gives, so that much is blocked."""
     needs = union(rng.sample(layout.used, rng.randint(2, 4)))
     gives = union(rng.sample(layout.used, 1))
@@ -370,12 +355,12 @@ def blocked_step(rng, layout, taken):
 class Family(NamedTuple):
     """How a file is made, the family's share of the files, and the ends that its files are there to meet."""
 
-    make: Callable
+    make: Callable[[random.Random], bytes]
     share: int
-    ends: tuple
+    ends: tuple[str, ...]
 
 
-def refusals(*numbers):
+def refusals(*numbers: int) -> tuple[str, ...]:
     return tuple(f"refusal {number}" for number in numbers)
 
 
@@ -398,7 +383,7 @@ FAMILIES = {
 }
 
 
-def random_case(seed, index, families):
+def random_case(seed: str, index: int, families: Sequence[str]) -> tuple[str, bytes]:
     """The name of a family and one file of it."""
     rng = random.Random(f"{seed}/{index}")
     name = rng.choices(families, [FAMILIES[family].share for family in families])[0]

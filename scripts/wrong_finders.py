@@ -4,13 +4,21 @@ Some are the plain finder (plain_finder.py) with a bug planted in its case or it
 program that is judged: they spoil what it reads or what it writes. Each is a function that gets `run`, which answers
 the program's report on a text, and a text, and answers its own report; its docstring says what is wrong with it.
 """
+from __future__ import annotations
+
 import re
+from collections.abc import Callable
 from functools import reduce
 from operator import or_
 
-from judge import ROWS, TEXT_LIMIT
-from plain_case import EMPTY, Case, inside, members, refuse_if, sets_of_size, size
+from casefiles import ROWS, TEXT_LIMIT
+from facts import all_meet, inside, members, sets_of_size, size
+from plain_case import EMPTY, Case, refuse_if
 from plain_finder import PlainFinder
+
+# What a program reports of a text; and a wrong finder, which is given such a program and a text.
+Reporter = Callable[[bytes], bytes]
+WrongFinder = Callable[[Reporter, bytes], bytes]
 
 # Bugs in the case and its list of groups
 
@@ -18,7 +26,7 @@ from plain_finder import PlainFinder
 class GroupsKeptAfterGrant(Case):
     """keeps the listed groups after a grant"""
 
-    def grant(self, facts):
+    def grant(self, facts: int) -> None:
         listed = self.listed
         super().grant(facts)
         self.listed = listed
@@ -27,7 +35,7 @@ class GroupsKeptAfterGrant(Case):
 class GroupsKeptAfterPut(Case):
     """keeps the listed groups after a put"""
 
-    def put(self, place, needs, gives, takes):
+    def put(self, place: int, needs: int, gives: int, takes: int) -> None:
         listed = self.listed
         super().put(place, needs, gives, takes)
         self.listed = listed
@@ -36,7 +44,7 @@ class GroupsKeptAfterPut(Case):
 class GroupsKeptAfterCancel(Case):
     """keeps the listed groups after a cancel"""
 
-    def cancel(self, facts):
+    def cancel(self, facts: int) -> None:
         listed = self.listed
         super().cancel(facts)
         self.listed = listed
@@ -45,7 +53,7 @@ class GroupsKeptAfterCancel(Case):
 class GroupsKeptAfterSign(Case):
     """keeps the listed groups, with facts that are waived now, after a sign"""
 
-    def draw_and_sign(self):
+    def draw_and_sign(self) -> None:
         listed = self.listed
         super().draw_and_sign()
         self.listed = listed
@@ -54,7 +62,7 @@ class GroupsKeptAfterSign(Case):
 class OrderedFactsStayInGroups(Case):
     """leaves ordered facts in the listed groups"""
 
-    def order_more(self, facts):
+    def order_more(self, facts: int) -> None:
         listed = self.listed
         super().order_more(facts)
         self.listed = listed
@@ -63,7 +71,7 @@ class OrderedFactsStayInGroups(Case):
 class FindingKeptAfterLapse(Case):
     """keeps the finding after a lapse, and signs it"""
 
-    def lapse(self, facts):
+    def lapse(self, facts: int) -> None:
         finding = self.finding
         super().lapse(facts)
         self.finding = finding
@@ -72,7 +80,7 @@ class FindingKeptAfterLapse(Case):
 class EmptySlipSigned(Case):
     """draws and signs a slip for the empty set"""
 
-    def draw_and_sign(self):
+    def draw_and_sign(self) -> None:
         self.refuse_unopened()
         if self.finding == 0:
             self.changed(EMPTY)
@@ -83,7 +91,7 @@ class EmptySlipSigned(Case):
 class SignWaivesNothing(Case):
     """signs a slip and doesn't waive its facts"""
 
-    def draw_and_sign(self):
+    def draw_and_sign(self) -> None:
         waived = self.waived
         super().draw_and_sign()
         self.waived = waived
@@ -92,14 +100,14 @@ class SignWaivesNothing(Case):
 class WaivedFactOrdered(Case):
     """takes an order of a waived fact"""
 
-    def order_more(self, facts):
+    def order_more(self, facts: int) -> None:
         super().order_more(facts & ~self.waived)
 
 
 class CarryNeedsWaivedFacts(Case):
     """carries a step out only if its waived needs stand too"""
 
-    def carry(self, place):
+    def carry(self, place: int) -> None:
         self.refuse_unopened()
         self.refuse_without_step(place)
         refuse_if(not inside(self.steps[place][0], self.standing), 12)
@@ -109,7 +117,7 @@ class CarryNeedsWaivedFacts(Case):
 class CarryTakesNothing(Case):
     """carries a step out without what it takes"""
 
-    def carry(self, place):
+    def carry(self, place: int) -> None:
         standing = self.standing
         super().carry(place)
         self.standing |= standing
@@ -118,7 +126,7 @@ class CarryTakesNothing(Case):
 class PlaceCheckedFirst(Case):
     """checks the place of a put before its sets"""
 
-    def put(self, place, needs, gives, takes):
+    def put(self, place: int, needs: int, gives: int, takes: int) -> None:
         self.refuse_unopened()
         refuse_if(place > 63, 9)
         super().put(place, needs, gives, takes)
@@ -130,17 +138,17 @@ class PlaceCheckedFirst(Case):
 class RanOutIsBlocked(Case):
     """takes a sheet that ran out for blocked"""
 
-    def reaches(self, struck, rows):
+    def reaches(self, struck: int, rows: int) -> bool:
         return True
 
-    def solvable(self, struck):
+    def solvable(self, struck: int) -> bool:
         return super().reaches(struck, ROWS) and super().solvable(struck)
 
 
 class PicksGreedily(Case):
     """picks a set that meets all groups and need not be a smallest one"""
 
-    def picked(self):
+    def picked(self) -> int | None:
         chosen = 0
         for group in self.listed:
             if group == 0:
@@ -152,34 +160,34 @@ class PicksGreedily(Case):
 class AnswersSuperset(Case):
     """answers a good set with a fact more than it takes"""
 
-    def find_by_list(self, rows):
+    def find_by_list(self, rows: int) -> tuple[str, int | None]:
         ending, facts = super().find_by_list(rows)
-        spare = members(self.needed() & ~facts) if ending == "set" else []
-        return ending, facts | spare[0] if spare and facts else facts
+        spare = members(self.needed() & ~facts) if facts and ending == "set" else []
+        return ending, facts | spare[0] if facts and spare else facts
 
 
 class PicksTheHighest(Case):
     """picks the highest number among the smallest sets"""
 
-    def picked(self):
+    def picked(self) -> int | None:
         lowest = super().picked()
         if not lowest:
             return lowest
         occurring = reduce(or_, self.listed)
-        return max(s for s in sets_of_size(occurring, size(lowest)) if all(s & group for group in self.listed))
+        return max(s for s in sets_of_size(occurring, size(lowest)) if all_meet(s, self.listed))
 
 
 class NoneTooEarly(Case):
     """says none though a good set exists, since a group loses facts that matter"""
 
-    def widened(self, blocked, rows, noted):
+    def widened(self, blocked: int, rows: int, noted: list[int]) -> tuple[int, int | None]:
         return self.waivable(), None
 
 
 class AsksWhatItKnows(Case):
     """queries sets that its noted answers settle, and so says beyond reach where it need not"""
 
-    def widened(self, blocked, rows, noted):
+    def widened(self, blocked: int, rows: int, noted: list[int]) -> tuple[int, int | None]:
         return super().widened(blocked, rows, [])
 
 
@@ -195,14 +203,15 @@ class ListNeverFull(Case):
     list_limit = 1000
 
 
-def with_case(case_type):
-    def report(_run, text):
+def with_case(case_type: type[Case]) -> WrongFinder:
+    """The plain finder with this case."""
+    def report(_run: Reporter, text: bytes) -> bytes:
         return PlainFinder(case_type).report(text)
     report.__doc__ = case_type.__doc__
     return report
 
 
-def one_row_fewer(_run, text):
+def one_row_fewer(_run: Reporter, text: bytes) -> bytes:
     """works with 4,095 rows"""
     finder = PlainFinder()
     finder.rows = ROWS - 1
@@ -212,27 +221,27 @@ def one_row_fewer(_run, text):
 # Bugs in reading
 
 
-def last_line_lost(run, text):
+def last_line_lost(run: Reporter, text: bytes) -> bytes:
     """doesn't read a last line without a line feed"""
     return run(text[:text.rfind(b"\n") + 1])
 
 
-def carriage_returns_skipped(run, text):
+def carriage_returns_skipped(run: Reporter, text: bytes) -> bytes:
     """reads over carriage returns"""
     return run(text.replace(b"\r", b""))
 
 
-def long_text_cut(run, text):
+def long_text_cut(run: Reporter, text: bytes) -> bytes:
     """reads the first 16,384 bytes of a text that is too long"""
     return run(text[:TEXT_LIMIT])
 
 
-def longest_text_refused(run, text):
+def longest_text_refused(run: Reporter, text: bytes) -> bytes:
     """refuses a text of exactly 16,384 bytes"""
     return run(text + b"\n" if len(text) == TEXT_LIMIT else text)
 
 
-def takes_not_read(run, text):
+def takes_not_read(run: Reporter, text: bytes) -> bytes:
     """reads the takes of every step as nothing"""
     return run(re.sub(rb"(?m)^(02[0-9A-Fa-f]{18})[0-9A-Fa-f]{8}$", rb"\g<1>00000000", text))
 
@@ -240,67 +249,67 @@ def takes_not_read(run, text):
 # Bugs in writing
 
 
-def in_lines(change):
+def in_lines(change: Callable[[int, bytes], bytes]) -> WrongFinder:
     """A report in which each line is changed, by its number from 1 and its text."""
-    def report(run, text):
+    def report(run: Reporter, text: bytes) -> bytes:
         lines = run(text).split(b"\n")[:-1]
         return b"".join(change(number, line) + b"\n" for number, line in enumerate(lines, start=1))
     report.__name__, report.__doc__ = change.__name__, change.__doc__
     return report
 
 
-def is_set(line):
+def is_set(line: bytes) -> bool:
     return line.startswith(b"0900")
 
 
-def is_refusal(line):
+def is_refusal(line: bytes) -> bool:
     return len(line) >= 10 and not is_set(line)
 
 
 @in_lines
-def size_off_by_one(_number, line):
+def size_off_by_one(_number: int, line: bytes) -> bytes:
     """writes a size that is one too high"""
     return line[:12] + b"%02X" % (int(line[12:14], 16) + 1) + line[14:] if is_set(line) else line
 
 
 @in_lines
-def places_swapped(_number, line):
+def places_swapped(_number: int, line: bytes) -> bytes:
     """swaps the first two places of a plan"""
     return line[:18] + line[20:22] + line[18:20] + line[22:] if is_set(line) and len(line) >= 22 else line
 
 
 @in_lines
-def plan_cut(_number, line):
+def plan_cut(_number: int, line: bytes) -> bytes:
     """leaves out the last place of a plan, and counts the others rightly"""
     length = int(line[14:18], 16) if is_set(line) else 0
     return line[:14] + b"%04X" % (length - 1) + line[18:-2] if length else line
 
 
 @in_lines
-def lines_from_zero(number, line):
+def lines_from_zero(number: int, line: bytes) -> bytes:
     """counts lines from 0"""
     return line[:6] + b"%04X" % (number - 1) + line[10:] if is_refusal(line) else line
 
 
 @in_lines
-def wrong_layer(_number, line):
+def wrong_layer(_number: int, line: bytes) -> bytes:
     """names the finder's layer for beyond reach"""
     return line[:4] + b"03" + line[6:] if line.startswith(b"091504") else line
 
 
 @in_lines
-def small_letters(_number, line):
+def small_letters(_number: int, line: bytes) -> bytes:
     """writes small letters"""
     return line.lower()
 
 
 @in_lines
-def set_bytes_turned(_number, line):
+def set_bytes_turned(_number: int, line: bytes) -> bytes:
     """writes a set with its least significant byte first"""
     return line[:4] + line[10:12] + line[8:10] + line[6:8] + line[4:6] + line[12:] if is_set(line) else line
 
 
-def refused_lines_not_counted(run, text):
+def refused_lines_not_counted(run: Reporter, text: bytes) -> bytes:
     """doesn't count the refused lines"""
     accepted, lines = 0, []
     for line in run(text).split(b"\n")[:-1]:
@@ -312,9 +321,10 @@ def refused_lines_not_counted(run, text):
     return b"".join(lines)
 
 
-def stale_finding(run, text):
+def stale_finding(run: Reporter, text: bytes) -> bytes:
     """answers find after a grant by what it found before"""
-    found, lines = None, []
+    found: bytes | None = None
+    lines = []
     for line in run(text).split(b"\n")[:-1]:
         if is_set(line):
             line = found = found or line
@@ -324,7 +334,7 @@ def stale_finding(run, text):
     return b"".join(lines)
 
 
-WRONG_FINDERS = {
+WRONG_FINDERS: dict[str, WrongFinder] = {
     **{case_type.__name__: with_case(case_type) for case_type in (
         GroupsKeptAfterGrant, GroupsKeptAfterPut, GroupsKeptAfterCancel, GroupsKeptAfterSign, OrderedFactsStayInGroups,
         FindingKeptAfterLapse, EmptySlipSigned, SignWaivesNothing, WaivedFactOrdered, CarryNeedsWaivedFacts,

@@ -9,8 +9,11 @@ A name is the repository's own if a file of specs/ or proofs/ declares it: a def
 that Rattle makes for a goal, stays. Functions of src/, their parameters and fields, strings, inputs and outputs stay.
 No two names may fall together: the script writes nothing then, and says which.
 """
+from __future__ import annotations
+
 import re
 import sys
+from collections.abc import Iterator
 from pathlib import Path
 
 # Names that would fall together with another one, each with what it is called.
@@ -34,18 +37,18 @@ MADE = re.compile(
     r"(_of|_add|_sub|_mul|_shl|_shr|_bounds|_div|_rem)?-|.*-(requires|init|preserved|smaller)(-|$)|.*-invariant(-|$)")
 
 
-def texts(root):
+def texts(root: Path) -> Iterator[Path]:
     """The files that may hold the names: definitions, proofs, sources and edits."""
     for pattern in ("crates/*/specs/**/*.antt", "crates/*/proofs/**/*.antt", "crates/*/src/**/*.rt", "crates/*/must-fail/*"):
         yield from sorted(p for p in root.glob(pattern) if p.is_file())
 
 
-def code(text):
+def code(text: str) -> str:
     """A text without its comments."""
     return re.sub(r"(?m)^\s*(--|//).*$", "", text)
 
 
-def snake(name):
+def snake(name: str) -> str:
     if name in SPECIAL:
         return SPECIAL[name]
     if name[0].isupper():
@@ -55,8 +58,9 @@ def snake(name):
     return words.replace("-", "_")
 
 
-def new_names(files):
-    own, library = set(), set()
+def new_names(files: dict[Path, str]) -> dict[str, str]:
+    own: set[str] = set()
+    library: set[str] = set()
     for path, text in files.items():
         for names in IMPORT.findall(text):
             library |= {n.split(" as ")[0].strip() for n in names.split(",")}
@@ -67,26 +71,26 @@ def new_names(files):
             own.add(match[1])
         if path.parent.name in ("specs", "proofs"):
             own |= set(re.findall(r"(?m)^use [\w.'+-]* as ([a-z][\w'-]*)$", text))
-    changed = {}
+    changed: dict[str, str] = {}
     for name in sorted(own - library):
         if TOKEN.fullmatch(name) and not MADE.match(name) and snake(name) != name:
             changed[name] = snake(name)
     return changed
 
 
-def together(changed, files):
+def together(changed: dict[str, str], files: dict[Path, str]) -> list[str]:
     """Pairs of names that would be one name afterwards."""
-    used = set()
+    used: set[str] = set()
     for text in files.values():
         used |= set(TOKEN.findall(code(text)))
     found = [f"{old} becomes {new}, which is used already" for old, new in changed.items() if new in used - SHARED]
-    back = {}
+    back: dict[str, list[str]] = {}
     for old, new in changed.items():
         back.setdefault(new, []).append(old)
     return found + [f"{', '.join(olds)} become {new}" for new, olds in back.items() if len(olds) > 1]
 
 
-def main(argv):
+def main(argv: list[str]) -> int:
     root = Path.cwd()
     files = {path: path.read_text(encoding="utf-8") for path in texts(root)}
     changed = new_names(files)

@@ -2,7 +2,7 @@
 use Rattle.std.proofs.Common.{◌≡◌, ℕ, ◌-◌, ◌<◌, ◌≤◌, ◌⊎◌, inl, inr, List, [], ◌++◌, length, take, drop, Some, None, Ok, Err, Option, Result, refl, ap, ◌∙◌, subst, arith}
 use Rattle.std.proofs.Math.Seq.{take-append_seam}
 use Rattle.std.specs.Io.KnownBytes.{Keeps, Appends}
-use Rattle.std.proofs.KnownBytes.{Appends-nil, Appends-trans, Keeps-refl}
+use Rattle.std.proofs.KnownBytes.{Appends-nil, Appends-trans, Keeps-refl, Keeps-trans}
 use Rattle.rules.specs.Planning.{Task}
 use Rattle.waivers.specs.Searching.{Choice}
 use Rattle.frames.specs.Reports.{report_line, Printed}
@@ -11,7 +11,7 @@ use Rattle.casefile.specs.declared.fault.ReadFault.{ReadFault}
 use Rattle.casefile.specs.declared.fault.ReadFault.TheVariants.{TextTooLong, BufferTooShort}
 use Rattle.casefile.specs.declared.fault.ServeFault.{ServeFault}
 use Rattle.casefile.specs.declared.fault.ServeFault.TheVariants as serve_fault
-use Rattle.casefile.specs.Faults.{too_long_bytes, reported_length}
+use Rattle.casefile.specs.Faults.{too_long_bytes, report_length}
 use Rattle.casefile.specs.Reporting.{Stage, Read, ReadsNext}
 use Rattle.casefile.specs.Chains.{LinesRead, none, more, Writes, Reports, ServesText}
 
@@ -29,12 +29,6 @@ Keeps-appends None b c bs p q = tt
 Keeps-appends (Some x) None c bs p q = absurd p
 Keeps-appends (Some x) (Some y) None bs p q = absurd q
 Keeps-appends (Some x) (Some y) (Some z) bs p q = q ∙ ap (λ (l : List ℕ). l ++ bs) p
-
-Keeps-trans : (a b c : Option (List ℕ)) → Keeps a b → Keeps b c → Keeps a c
-Keeps-trans None b c p q = tt
-Keeps-trans (Some x) None c p q = absurd p
-Keeps-trans (Some x) (Some y) None p q = absurd q
-Keeps-trans (Some x) (Some y) (Some z) p q = q ∙ p
 
 module _ {D : Type 0} (c : Choice) (reach : D → Task → ℕ → ℕ → ℕ → Type 0) (m : ℕ) (text : List ℕ) (room : ℕ) where
   -- how far the lines of a text are read and reported: not at all, unless the buffer has room and the text is short
@@ -70,7 +64,7 @@ module _ {D : Type 0} (c : Choice) (reach : D → Task → ℕ → ℕ → ℕ �
   -- where no line is read
   pub progress_unread
       : (x y z : Stage D) (out out' out'' : Option (List ℕ)) (buf buf' : List ℕ) (e : ReadFault) (r : Result Unit ServeFault) → length buf ≡ room
-      → Progress x y out out' → ReadsNext c reach m text y z buf buf' (Err e) → Reports e (take (reported_length e) buf') out' out'' r
+      → Progress x y out out' → ReadsNext c reach m text y z buf buf' (Err e) → Reports e (take (report_length e) buf') out' out'' r
       → ServesText c reach m text room x z out out'' r
   progress_unread x y z out out' out'' buf buf' BufferTooShort r long p (few, same, kept) (is, keeps') =
       elim p.begun [
@@ -80,10 +74,10 @@ module _ {D : Type 0} (c : Choice) (reach : D → Task → ℕ → ℕ → ℕ �
   progress_unread x y z out out' out'' buf buf' TextTooLong r long p (enough, many, same, printed) writes =
       elim p.begun [ inl (at, keeps) ↦ too_long r writes (same ∙ at) keeps | inr (roomy, short) ↦ absurd (omega arith) ]
     where
-      line : take (reported_length TextTooLong) buf' ≡ report_line too_long_bytes
-      line = printed_line too_long_bytes buf buf' (reported_length TextTooLong) printed
+      line : take (report_length TextTooLong) buf' ≡ report_line too_long_bytes
+      line = printed_line too_long_bytes buf buf' (report_length TextTooLong) printed
 
-      too_long : (r : Result Unit ServeFault) → Writes (take (reported_length TextTooLong) buf') out' out'' r → z ≡ x → Keeps out out'
+      too_long : (r : Result Unit ServeFault) → Writes (take (report_length TextTooLong) buf') out' out'' r → z ≡ x → Keeps out out'
           → ServesText c reach m text room x z out out'' r
       too_long (Ok u) w at keeps =
           (omega arith, (report_line too_long_bytes, inr (many, at, refl), Keeps-appends out out' out'' _ keeps (subst (Appends out' out'') line w)))

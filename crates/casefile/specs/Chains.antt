@@ -23,9 +23,9 @@ pub data LinesRead {D : Type 0} (c : Choice) (reach : D → Task → ℕ → ℕ
 
 -- the whole report of a text: the lines of reads that lead to its end; where it is too long no line
 -- is read, and one report line says so
-abbrev pub Reported : {D : Type 0} → Choice → (D → Task → ℕ → ℕ → ℕ → Type 0) → ℕ → List ℕ
+abbrev pub TextReport : {D : Type 0} → Choice → (D → Task → ℕ → ℕ → ℕ → Type 0) → ℕ → List ℕ
     → Stage D → Stage D → List ℕ → Type 0
-Reported c reach m text x y report =
+TextReport c reach m text x y report =
     ((length text ≤ 16384) × LinesRead c reach m text x y report × (length text ≤ y.position))
     ⊎ ((16384 < length text) × (y ≡ x) × (report ≡ report_line too_long_bytes))
 
@@ -50,7 +50,7 @@ abbrev pub ServesText : {D : Type 0} → Choice → (D → Task → ℕ → ℕ 
     → Stage D → Stage D → Option (List ℕ) → Option (List ℕ) → Result Unit ServeFault → Type 0
 ServesText c reach m text room x y out out' (Ok u) =
     (8209 ≤ room)
-    × ((report : List ℕ) × Reported c reach m text x y report × Appends out out' report)
+    × ((report : List ℕ) × TextReport c reach m text x y report × Appends out out' report)
 ServesText c reach m text room x y out out' (Err (serve_fault.Unread BufferTooShort)) =
     (room < 8209) × (y ≡ x) × Keeps out out'
 ServesText c reach m text room x y out out' (Err (serve_fault.Unread TextTooLong)) = ⊥

@@ -33,41 +33,44 @@ request_of frame.Find = Find
 request_of frame.DrawAndSign = DrawAndSign
 
 -- how a call's answer is passed on
-abbrev pub called : Result Unit Refusal → Result Reply LineFault
-called (Ok u) = Ok Done
-called (Err e) = Err (fault.Case e)
+abbrev pub reply_to_call : Result Unit Refusal → Result Reply LineFault
+reply_to_call (Ok u) = Ok Done
+reply_to_call (Err e) = Err (fault.Case e)
 
 -- how find's answer is passed on
-abbrev pub looked : Result (ℕ × ℕ × ℕ) FinderFault → Result Reply LineFault
-looked (Ok (s, count, n)) = Ok (Found s count n)
-looked (Err e) = Err (fault.Finder e)
+abbrev pub reply_to_find : Result (ℕ × ℕ × ℕ) FinderFault → Result Reply LineFault
+reply_to_find (Ok (s, count, n)) = Ok (Found s count n)
+reply_to_find (Err e) = Err (fault.Finder e)
 
 -- a call that touches neither sheet nor book is made, as C says of its answer and of the case then,
 -- and its answer is passed on
-pub record Calls (C : Result Unit Refusal → State → Type 0) (r : Result Reply LineFault)
+pub record RepliesToCall (C : Result Unit Refusal → State → Type 0) (r : Result Reply LineFault)
     (k' : State) (s : List Row) (b : List ℕ) (s' : List Row) (b' : List ℕ) : Type 0 where
   pub answer : Result Unit Refusal
   pub makes : C answer k'
-  pub reply : r ≡ called answer
+  pub reply : r ≡ reply_to_call answer
   pub sheet : s' ≡ s
   pub book : b' ≡ b
 
 -- find is called, and its answer is passed on
-pub record Looks (c : Choice) (R : ℕ → Type 0) (m : ℕ) (k : State) (r : Result Reply LineFault)
-    (k' : State) (s : List Row) (b : List ℕ) (s' : List Row) (b' : List ℕ) : Type 0 where
+pub record RepliesToFind (c : Choice) (R : ℕ → Type 0) (m : ℕ) (k : State)
+    (r : Result Reply LineFault) (k' : State) (s : List Row) (b : List ℕ)
+    (s' : List Row) (b' : List ℕ) : Type 0 where
   pub answer : Result (ℕ × ℕ × ℕ) FinderFault
   pub finds : Finds c R m k s b (record { result = answer; sheet = s'; book = b' }) k'
-  pub reply : r ≡ looked answer
+  pub reply : r ≡ reply_to_find answer
 
 -- what a request does to the case k, the sheet s and the book b, and what is replied; c is the
 -- picker's choice, R says which sets are in the decider's reach, m is its mark
 abbrev pub Replies : Choice → (ℕ → Type 0) → ℕ → Request → State → Result Reply LineFault → State
     → List Row → List ℕ → List Row → List ℕ → Type 0
 Replies c R m (Open number n standing order) k r k' s b s' b' =
-    Calls (λ a l. Opens number n standing order k a l) r k' s b s' b'
-Replies c R m (Change x) k r k' s b s' b' = Calls (λ a l. Changes x k a l) r k' s b s' b'
-Replies c R m Find k r k' s b s' b' = Looks c R m k r k' s b s' b'
-Replies c R m DrawAndSign k r k' s b s' b' = Calls (λ a l. DrawsAndSigns k a l) r k' s b s' b'
+    RepliesToCall (λ a l. Opens number n standing order k a l) r k' s b s' b'
+Replies c R m (Change x) k r k' s b s' b' =
+    RepliesToCall (λ a l. Changes x k a l) r k' s b s' b'
+Replies c R m Find k r k' s b s' b' = RepliesToFind c R m k r k' s b s' b'
+Replies c R m DrawAndSign k r k' s b s' b' =
+    RepliesToCall (λ a l. DrawsAndSigns k a l) r k' s b s' b'
 
 -- what a frame does is what its request does
 abbrev pub Serves : Choice → (ℕ → Type 0) → ℕ → Frame → State → Result Reply LineFault → State

@@ -1,10 +1,11 @@
-//! Why a line of a case file is refused, why no line of a text is read, and why a text is not served.
+//! Why a line of a case file is refused, why no line of a text is read, and why a text is not
+//! served.
 
 ghost use Rattle.std.specs.Prelude.{◌≡◌};
 ghost use Rattle.casefile.specs.declared.fault.LineFault.TheVariants.{Frame as OfFrame, Case as OfCase, Finder as OfFinder};
 ghost use Rattle.casefile.specs.declared.fault.ServeFault.TheVariants.{Unread as OfUnread, Output as OfOutput};
 ghost use Rattle.frames.specs.Reports.{Printed};
-ghost use Rattle.casefile.specs.Faults.{told, told_unread, too_long_bytes, reported_length};
+ghost use Rattle.casefile.specs.Faults.{report_of, unread_report, too_long_bytes, report_length as length_of};
 
 use deciders::DeciderFault;
 use frames::{Added, FrameFault, Refused, write_refused};
@@ -27,9 +28,9 @@ pub enum LineFault {
 impl LineFault {
     /// The fault's number in report lines.
     pub fn number(&self) -> u8
-        ensures { result ≡ (told self.now).refusal }
+        ensures { result ≡ (report_of self.now).refusal }
     {
-        // Kept: a variant that holds a value has no discriminant to cast.
+        // A variant that holds a value has no discriminant to cast.
         match self {
             LineFault::Frame(fault) => fault.number(),
             LineFault::Case(refusal) => refusal.number(),
@@ -39,7 +40,7 @@ impl LineFault {
 
     /// The layer that the fault comes from.
     pub fn layer(&self) -> Layer
-        ensures { result ≡ (told self.now).layer }
+        ensures { result ≡ (report_of self.now).layer }
     {
         match self {
             LineFault::Frame(_) => Layer::Reader,
@@ -50,7 +51,7 @@ impl LineFault {
 
     /// What the fault adds to its report line.
     pub fn added(&self) -> Option<Added>
-        ensures { result ≡ (told self.now).added }
+        ensures { result ≡ (report_of self.now).added }
     {
         let LineFault::Finder(fault) = self else {
             return None;
@@ -79,7 +80,7 @@ pub enum ReadFault {
 impl ReadFault {
     /// The fault's number.
     pub fn number(&self) -> u8
-        ensures { result ≡ (told_unread self.now).refusal }
+        ensures { result ≡ (unread_report self.now).refusal }
     {
         match self {
             ReadFault::BufferTooShort => 18,
@@ -89,7 +90,7 @@ impl ReadFault {
 
     /// The layer that the fault comes from.
     pub fn layer(&self) -> Layer
-        ensures { result ≡ (told_unread self.now).layer }
+        ensures { result ≡ (unread_report self.now).layer }
     {
         match self {
             ReadFault::BufferTooShort => Layer::Finder,
@@ -97,10 +98,10 @@ impl ReadFault {
         }
     }
 
-    /// How many bytes the report line has that the fault leaves at the front of the buffer: 11 where the text is too long,
-    /// and 0 where the buffer is too short.
-    pub fn reported(&self) -> usize
-        ensures { result ≡ reported_length self.now }
+    /// How many bytes the report line has that the fault leaves at the front of the buffer: 11
+    /// where the text is too long, and 0 where the buffer is too short.
+    pub fn report_length(&self) -> usize
+        ensures { result ≡ length_of self.now }
     {
         match self {
             ReadFault::BufferTooShort => 0,
@@ -109,8 +110,8 @@ impl ReadFault {
     }
 }
 
-/// Writes the one report line of a text that is too long to the front of the buffer, and says how long it is. It is of no
-/// line, so kind and line are 0.
+/// Writes the one report line of a text that is too long to the front of the buffer, and says how
+/// long it is. It is of no line, so kind and line are 0.
 pub(crate) fn report_too_long(buffer: &mut [u8]) -> Option<usize>
     ensures { Printed too_long_bytes buffer.old buffer.new result }
 {
@@ -136,7 +137,7 @@ pub enum ServeFault {
     Output(io::Error),
 }
 
-// Kept: by hand, here and below, since the contracts say which fault a `?` makes, and a derive would not.
+// By hand, here and below, since the contracts say which fault a `?` makes, and a derive would not.
 impl From<FrameFault> for LineFault {
     ghost from_gives = { λ e r. r ≡ OfFrame e };
 

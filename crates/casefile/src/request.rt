@@ -7,7 +7,8 @@ use frames::Frame;
 use rules::Facts;
 use waivers::Change;
 
-/// What a frame asks of a case: one of the calls that change what is planned over, or a call of its own kind.
+/// What a frame asks of a case: one of the calls that change what is planned over, or a call of its
+/// own kind.
 #[derive(Clone, Copy, PartialEq, Eq, Debug)]
 pub(crate) enum Request {
     Open {

@@ -1,19 +1,21 @@
-//! What a frame does to a case.
+//! What a line does to a case, and the report line that answers it.
 
 ghost use Rattle.std.specs.Prelude.{◌≡◌};
-ghost use Rattle.casefile.specs.Serving.{called};
-ghost use Rattle.casefile.specs.Desks.{KeepsLoans, KeepsReach, ServesAt};
+ghost use Rattle.frames.specs.Reports.{Printed};
+ghost use Rattle.casefile.specs.Serving.{reply_to_call};
+ghost use Rattle.casefile.specs.Reporting.{reply_bytes, Fits};
+ghost use Rattle.casefile.specs.Desks.{KeepsLoans, KeepsReach, ServesAt, AsksAt};
 
 use crate::fault::LineFault;
 use crate::request::{Request, asked_by};
 use cases::Case;
 use deciders::{Decider, Row};
-use frames::Frame;
+use frames::{Frame, Refused, read_frame, write_accepted, write_found, write_refused};
 use pickers::Picker;
 use rules::{Facts, Refusal};
 
 /// What an accepted frame answers.
-// Kept: both are answers to accepted frames; as an Option, None would read as no answer.
+// Both are answers to accepted frames; as an Option, None would read as no answer.
 #[derive(Clone, Copy, PartialEq, Eq, Debug)]
 pub enum Reply {
     /// The call was made.
@@ -22,8 +24,15 @@ pub enum Reply {
     Found { set: Facts, size: u8, length: u16 },
 }
 
-/// What the lines of a case file work on: the case, the decider and the picker that it finds with, and the rows and the
-/// plan book for finding.
+/// What a line is answered, and the kind that its report shows.
+#[derive(Clone, Copy)]
+pub(crate) struct Answer {
+    kind: u8,
+    reply: Result<Reply, LineFault>,
+}
+
+/// What the lines of a case file work on: the case, the decider and the picker that it finds with,
+/// and the rows and the plan book for finding.
 pub struct Desk<'a, D, P> {
     pub case: &'a mut Case,
     pub decider: &'a mut D,
@@ -47,15 +56,15 @@ impl<D, P> Drop for Desk<'_, D, P> {
 
 /// What is replied to a call that the case made or refused.
 fn reply_to(made: Result<(), Refusal>) -> Result<Reply, LineFault>
-    ensures { result ≡ called made }
+    ensures { result ≡ reply_to_call made }
 {
     made?;
     Ok(Reply::Done)
 }
 
 impl<D: Decider, P: Picker> Desk<'_, D, P> {
-    /// Makes the call that a frame asks for. A refused call is answered by `LineFault::Case`, and a find without a set by
-    /// `LineFault::Finder`.
+    /// Makes the call that a frame asks for. A refused call is answered by `LineFault::Case`, and a
+    /// find without a set by `LineFault::Finder`.
     pub fn serve(&mut self, frame: &Frame) -> Result<Reply, LineFault>
         ensures same { KeepsLoans self.old self.new }
         ensures reach { KeepsReach D.reach self.old self.new }
@@ -76,6 +85,50 @@ impl<D: Decider, P: Picker> Desk<'_, D, P> {
                 Ok(Reply::Found { set, size, length })
             }
             Request::DrawAndSign => reply_to(self.case.draw_and_sign()),
+        }
+    }
+
+    /// Makes the call that a line asks for.
+    pub(crate) fn ask(&mut self, line: &[u8]) -> Answer
+        ensures same { KeepsLoans self.old self.new }
+        ensures reach { KeepsReach D.reach self.old self.new }
+        ensures asks { AsksAt P.choice D.reach D.MARK line.now result.kind
+            self.old result.reply self.new }
+        ensures fits { Fits result.reply self.new.book.now }
+    {
+        match read_frame(line) {
+            Ok(frame) => Answer {
+                kind: u8::from(frame.kind()),
+                reply: self.serve(&frame),
+            },
+            Err(fault) => Answer {
+                kind: fault.kind(),
+                reply: Err(LineFault::from(fault)),
+            },
+        }
+    }
+
+    /// Writes the report line of an answer to the front of the buffer, and says how long it is.
+    pub(crate) fn report(&self, answer: &Answer, line: u16, buffer: &mut [u8]) -> Option<usize>
+        requires { Fits answer.now.reply self.now.book.now }
+        ensures { Printed (reply_bytes answer.now.kind line answer.now.reply self.now.book.now)
+            buffer.old buffer.new result }
+    {
+        match answer.reply {
+            Ok(Reply::Done) => write_accepted(answer.kind, buffer),
+            Ok(Reply::Found { set, size, length }) => {
+                write_found(set, size, &self.book[..usize::from(length)], buffer)
+            }
+            Err(fault) => {
+                let refused = Refused {
+                    kind: answer.kind,
+                    refusal: fault.number(),
+                    layer: u8::from(fault.layer()),
+                    line,
+                    added: fault.added(),
+                };
+                write_refused(&refused, buffer)
+            }
         }
     }
 }

@@ -1,7 +1,7 @@
 //! Serving a whole text.
 
 ghost use Rattle.std.specs.Prelude.{◌≤◌, length, take};
-ghost use Rattle.casefile.specs.Faults.{reported_length};
+ghost use Rattle.casefile.specs.Faults.{report_length};
 ghost use Rattle.casefile.specs.Chains.{Writes, Reports};
 ghost use Rattle.casefile.specs.Desks.{KeepsLoans, KeepsReach, ServesTextAt};
 
@@ -23,21 +23,23 @@ fn write_line<W: Write>(buffer: &[u8], end: usize, output: &mut W) -> Result<(),
 
 /// Writes the report line that a fault has left at the front of the buffer, if it has left one.
 fn report_fault<W: Write>(fault: ReadFault, buffer: &[u8], output: &mut W) -> Result<(), ServeFault>
-    requires { reported_length fault ≤ length buffer.now }
-    ensures { Reports fault (take (reported_length fault) buffer.now)
+    requires { report_length fault ≤ length buffer.now }
+    ensures { Reports fault (take (report_length fault) buffer.now)
         (W.contents output.old) (W.contents output.new) result }
 {
     match fault {
-        ReadFault::TextTooLong => write_line(buffer, fault.reported(), output),
+        ReadFault::TextTooLong => write_line(buffer, fault.report_length(), output),
         ReadFault::BufferTooShort => Err(ServeFault::Unread(fault)),
     }
 }
 
-/// Serves a text: reads its lines to its end, makes the call that each asks for, and writes the report line of each; or
-/// writes the one report line of a text that is too long. The buffer is free afterwards, and the writer is not flushed.
+/// Serves a text: reads its lines to its end, makes the call that each asks for, and writes the
+/// report line of each; or writes the one report line of a text that is too long. What the buffer
+/// then holds is not said, and the writer is not flushed.
 ///
-/// A report buffer of fewer than 8,209 bytes is refused, and nothing is read or written. Where the writer fails, its error
-/// ends the text: some of its lines were served, and what the writer then holds is not known.
+/// A report buffer of fewer than 8,209 bytes is refused, and nothing is read or written. Where the
+/// writer fails, its error ends the text: some of its lines were served, and what the writer then
+/// holds is not known.
 pub fn serve_text<D: Decider, P: Picker, W: Write>(
     text: &[u8],
     desk: &mut Desk<D, P>,

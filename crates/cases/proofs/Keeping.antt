@@ -1,11 +1,10 @@
 -- Each call that is made as its contract says keeps the law, and so do lists of calls.
 use Rattle.std.proofs.Common.{◌≡◌, ℕ, ◌≤◌, true, false, List, [], ◌∷◌, ◌++◌, length, get_or, Ok, Err, IfOk, Result, sym, refl, ap, ◌∙◌, subst, arith}
-use Rattle.std.proofs.lemmas.Simd.{Each1-from_get_or}
 use Rattle.rules.specs.declared.refusal.Refusal.{Refusal}
 use Rattle.rules.specs.Sets.{Meets}
 use Rattle.rules.specs.Planning.{Task, Solvable}
 use Rattle.rules.specs.Waivers.{Good, Hits}
-use Rattle.rules.specs.Refusals.{after, first_refusal}
+use Rattle.rules.specs.Refusals.{unless_refused, first_refusal}
 use Rattle.rules.proofs.Groups.{duality}
 use Rattle.deciders.specs.declared.row.Row.{Row}
 use Rattle.deciders.specs.declared.answer.DeciderFault.TheVariants.{BeyondReach}
@@ -14,53 +13,53 @@ use Rattle.waivers.specs.declared.fault.FinderFault.{FinderFault}
 use Rattle.waivers.specs.declared.fault.FinderFault.TheVariants.{Case, Size, NoWaiver, Decider, ListFull}
 use Rattle.waivers.specs.Known.{Listed}
 use Rattle.waivers.specs.Changes.{refusal_of}
-use Rattle.waivers.specs.declared.known.search.Found.{Found}
+use Rattle.waivers.specs.declared.good_set.GoodSet.{GoodSet}
 use Rattle.waivers.specs.Searching.{Choice, Ended}
 use Rattle.waivers.proofs.Keep.{none_listed, changed_listed}
 use Rattle.cases.specs.declared.slip.SlipData.{SlipData}
 use Rattle.cases.specs.Plain.{Plain, unopened}
-use Rattle.cases.specs.Calls.{Asked, Opening, Changing, Finding, Drawing, Signing, Tearing, AnswerTo, Entry, Sought}
-use Rattle.cases.specs.Refusing.{usable_refusal, case_refusal, of_case, of_size, refused, slip_of}
+use Rattle.cases.specs.Calls.{Asked, Opening, Changing, Finding, Drawing, Signing, Tearing, AnswerTo, Entry, FindAnswer}
+use Rattle.cases.specs.Refusing.{usable_refusal, case_refusal, of_case, of_size, call_refusal, slip_of}
 use Rattle.cases.specs.State.{State, known_of, state_opened, state_changed, state_signed, state_with_slip}
-use Rattle.cases.specs.Finding.{answer_to, FindsUnless}
+use Rattle.cases.specs.Finding.{answer_of, FindsUnless}
 use Rattle.cases.specs.Making.{Makes, Made, unmade, then}
-use Rattle.cases.specs.Replay.{given, turned_down, rule, unless, next, after_calls}
+use Rattle.cases.specs.Replay.{draw_refusal, find_refusal, effect_of, plain_after, after_calls}
 use Rattle.cases.specs.Law.{FoundTruly, Keeps, none, more, Law}
 use Rattle.cases.proofs.Refused.{both_made, refusing}
 use Rattle.cases.proofs.Staying.{replay_more}
 
 -- ---- a call that the case refuses or makes, without a search
 
-module _ (k k' : State) (e : Entry) (o : Result Unit Refusal) (f : State → State) (refuses : refused k.plain e.asked ≡ of_case o)
-    (rules : rule e.asked e.answered k.plain ≡ (f k).plain) (is : k' ≡ after o f k) where
+module _ (k k' : State) (e : Entry) (o : Result Unit Refusal) (f : State → State) (refuses : call_refusal k.plain e.asked ≡ of_case o)
+    (rules : effect_of e.asked e.answered k.plain ≡ (f k).plain) (is : k' ≡ unless_refused o f k) where
   -- the plain case after it is what the replay says
-  state_by : k'.plain ≡ next k.plain e
+  state_by : k'.plain ≡ plain_after k.plain e
   state_by = ap (λ (n : State). n.plain) is ∙ go o refl
     where
-      go : (q : Result Unit Refusal) → o ≡ q → (after o f k).plain ≡ next k.plain e
+      go : (q : Result Unit Refusal) → o ≡ q → (unless_refused o f k).plain ≡ plain_after k.plain e
       go (Ok u) same =
-          ap (λ (q : Result Unit Refusal). (after q f k).plain) same ∙ sym rules
-          ∙ sym (ap (λ (q : Result Unit FinderFault). unless q k.plain (rule e.asked e.answered k.plain)) (refuses ∙ ap of_case same))
+          ap (λ (q : Result Unit Refusal). (unless_refused q f k).plain) same ∙ sym rules
+          ∙ sym (ap (λ (q : Result Unit FinderFault). unless_refused q (effect_of e.asked e.answered) k.plain) (refuses ∙ ap of_case same))
       go (Err r) same =
-          ap (λ (q : Result Unit Refusal). (after q f k).plain) same
-          ∙ sym (ap (λ (q : Result Unit FinderFault). unless q k.plain (rule e.asked e.answered k.plain)) (refuses ∙ ap of_case same))
+          ap (λ (q : Result Unit Refusal). (unless_refused q f k).plain) same
+          ∙ sym (ap (λ (q : Result Unit FinderFault). unless_refused q (effect_of e.asked e.answered) k.plain) (refuses ∙ ap of_case same))
 
   -- and each listed group is one of it
   listed_by : (o ≡ Ok tt → Listed (known_of (f k))) → Listed (known_of k) → Listed (known_of k')
   listed_by made before = go o refl
     where
       go : (q : Result Unit Refusal) → o ≡ q → Listed (known_of k')
-      go (Ok u) same = subst (λ (n : State). Listed (known_of n)) (sym (is ∙ ap (λ (q : Result Unit Refusal). after q f k) same)) (made same)
-      go (Err r) same = subst (λ (n : State). Listed (known_of n)) (sym (is ∙ ap (λ (q : Result Unit Refusal). after q f k) same)) before
+      go (Ok u) same = subst (λ (n : State). Listed (known_of n)) (sym (is ∙ ap (λ (q : Result Unit Refusal). unless_refused q f k) same)) (made same)
+      go (Err r) same = subst (λ (n : State). Listed (known_of n)) (sym (is ∙ ap (λ (q : Result Unit Refusal). unless_refused q f k) same)) before
 
 -- whether a slip is drawn is whether the draw is refused
-given_by : (o : Result Unit Refusal) (slip : SlipData) → given (first_refusal o (Ok slip)) ≡ o
-given_by (Ok u) slip = refl
-given_by (Err e) slip = refl
+draw_refusal_by : (o : Result Unit Refusal) (slip : SlipData) → draw_refusal (first_refusal o (Ok slip)) ≡ o
+draw_refusal_by (Ok u) slip = refl
+draw_refusal_by (Err e) slip = refl
 
 -- every good set meets each listed group
 all_met : (p : Task) (gs : List ℕ) → Listed (record { task = p; groups = gs }) → (x : ℕ) → Good p x → Hits gs x
-all_met p gs listed x good = Each1-from_get_or (λ g. Meets x g) gs 0 (λ i lt. duality p x (get_or gs i 0) good (listed.each i lt))
+all_met p gs listed x good i d lt = duality p x (get_or gs i d) good (listed.each i d lt)
 
 -- ---- find
 
@@ -68,16 +67,16 @@ all_met p gs listed x good = Each1-from_get_or (λ g. Meets x g) gs 0 (λ i lt. 
 roomy : (o : Result Unit Refusal) (rows places : ℕ) → first_refusal (of_case o) (of_size (size_refusal rows places)) ≡ Ok tt → rows ≤ places
 roomy o rows places made = let sizes = (both_made (of_case o) (of_size (size_refusal rows places)) made).1 in grind arith
 
-module _ (c : Choice) (R : Task → ℕ → ℕ → ℕ → Type 0) (m : ℕ) (k k' : State) (s : List Row) (b : List ℕ) (a : Sought) where
+module _ (c : Choice) (R : Task → ℕ → ℕ → ℕ → Type 0) (m : ℕ) (k k' : State) (s : List Row) (b : List ℕ) (a : FindAnswer) where
   abbrev In : ℕ → Type 0
   In x = R k.plain.task x (length s) (length b)
 
   abbrev Kept : Type 0
-  Kept = Keeps c R m k.plain (next k.plain (record { asked = Finding s b; answered = a })) k (Finding s b) a k'
+  Kept = Keeps c R m k.plain (plain_after k.plain (record { asked = Finding s b; answered = a })) k (Finding s b) a k'
 
   -- what the search found is true
-  truly : (f : Result Found FinderFault) → Ended c In m (length s) k.plain.task k'.groups f a.book → length s ≤ length b → length a.book ≡ length b
-      → Listed (record { task = k.plain.task; groups = k'.groups }) → FoundTruly In m k.plain.task k'.groups a.book (answer_to f)
+  truly : (f : Result GoodSet FinderFault) → Ended c In m (length s) k.plain.task k'.groups f a.book → length s ≤ length b → length a.book ≡ length b
+      → Listed (record { task = k.plain.task; groups = k'.groups }) → FoundTruly In m k.plain.task k'.groups a.book (answer_of f)
   truly (Ok f) e roomy same l = record { good = e.good; counted = refl; fits = omega (arith, e.fits); plan = e.plan; fewest = e.smallest }
   truly (Err (Case r)) e roomy same l = tt
   truly (Err (Size r)) e roomy same l = tt
@@ -89,7 +88,7 @@ module _ (c : Choice) (R : Task → ℕ → ℕ → ℕ → Type 0) (m : ℕ) (k
   truly (Err (ListFull h)) e roomy same l = record { full = e.full; met = all_met k.plain.task k'.groups l }
 
   -- and it is no refusal
-  no_refusal : (f : Result Found FinderFault) → Ended c In m (length s) k.plain.task k'.groups f a.book → turned_down (answer_to f) ≡ Ok tt
+  no_refusal : (f : Result GoodSet FinderFault) → Ended c In m (length s) k.plain.task k'.groups f a.book → find_refusal (answer_of f) ≡ Ok tt
   no_refusal (Ok f) e = refl
   no_refusal (Err (Case r)) e = absurd e
   no_refusal (Err (Size r)) e = absurd e
@@ -97,24 +96,24 @@ module _ (c : Choice) (R : Task → ℕ → ℕ → ℕ → Type 0) (m : ℕ) (k
   no_refusal (Err (Decider f)) e = refl
   no_refusal (Err (ListFull h)) e = refl
 
-  finds_keep : (o : Result Unit FinderFault) → refused k.plain (Finding s b) ≡ o → FindsUnless o c In m k s b a k'
+  pub finds_keep : (o : Result Unit FinderFault) → call_refusal k.plain (Finding s b) ≡ o → FindsUnless o c In m k s b a k'
       → Makes c R m k (Finding s b) a k' → Kept
   finds_keep (Err e) q (is, same) makes = record {
     makes = makes;
-    state = ap (λ (n : State). n.plain) same ∙ sym (ap (λ r. unless r k.plain (rule (Finding s b) a k.plain)) q);
+    state = ap (λ (n : State). n.plain) same ∙ sym (ap (λ r. unless_refused r (effect_of (Finding s b) a) k.plain) q);
     refusal =
-        ap (λ (n : Sought). turned_down n.result) is
-        ∙ refusing (case_refusal k.plain (Finding s b)) (size_refusal (length s) (length b)) e q (λ f. turned_down (Err f) ≡ Err f) (λ r. refl) (λ f. refl)
+        ap (λ (n : FindAnswer). find_refusal n.result) is
+        ∙ refusing (case_refusal k.plain (Finding s b)) (size_refusal (length s) (length b)) e q (λ f. find_refusal (Err f) ≡ Err f) (λ r. refl) (λ f. refl)
         ∙ sym q;
-    promise = subst (λ (r : Result (ℕ × ℕ × ℕ) FinderFault). FoundTruly In m k.plain.task k'.groups a.book r) (sym (ap (λ (n : Sought). n.result) is))
+    promise = subst (λ (r : Result (ℕ × ℕ × ℕ) FinderFault). FoundTruly In m k.plain.task k'.groups a.book r) (sym (ap (λ (n : FindAnswer). n.result) is))
         (refusing (case_refusal k.plain (Finding s b)) (size_refusal (length s) (length b)) e q
         (λ f. FoundTruly In m k.plain.task k'.groups a.book (Err f)) (λ r. tt) (λ f. tt));
     listed = makes.1;
   }
   finds_keep (Ok u) q h makes = record {
     makes = makes;
-    state = h.plain ∙ sym (ap (λ r. unless r k.plain (rule (Finding s b) a k.plain)) q);
-    refusal = ap turned_down h.answer ∙ no_refusal h.found h.searches.ended ∙ sym q;
+    state = h.plain ∙ sym (ap (λ r. unless_refused r (effect_of (Finding s b) a) k.plain) q);
+    refusal = ap find_refusal h.answer ∙ no_refusal h.found h.searches.ended ∙ sym q;
     promise = subst (λ (r : Result (ℕ × ℕ × ℕ) FinderFault). FoundTruly In m k.plain.task k'.groups a.book r) (sym h.answer)
         (truly h.found h.searches.ended (roomy (case_refusal k.plain (Finding s b)) (length s) (length b) q) h.book
         (subst (λ (t : Task). Listed (record { task = t; groups = k'.groups })) (ap (λ (p : Plain). p.task) h.plain) makes.1));
@@ -125,7 +124,7 @@ module _ (c : Choice) (R : Task → ℕ → ℕ → ℕ → Type 0) (m : ℕ) (k
 
 module _ (c : Choice) (R : Task → ℕ → ℕ → ℕ → Type 0) (m : ℕ) (k k' : State) (l : Listed (known_of k)) where
   pub keeps : (x : Asked) (r : AnswerTo x) → Makes c R m k x r k'
-      → Keeps c R m k.plain (next k.plain (record { asked = x; answered = r })) k x r k'
+      → Keeps c R m k.plain (plain_after k.plain (record { asked = x; answered = r })) k x r k'
   keeps (Opening number n s o) r h = record {
     makes = h;
     state = state_by k k' (record { asked = Opening number n s o; answered = r }) _ (state_opened number n s o) refl refl h.after;
@@ -141,11 +140,11 @@ module _ (c : Choice) (R : Task → ℕ → ℕ → ℕ → Type 0) (m : ℕ) (k
     listed = listed_by k k' (record { asked = Changing x; answered = r }) _ (state_changed x) refl refl h.after
         (λ made. changed_listed x (known_of k) (both_made (usable_refusal k.plain) (refusal_of k.plain.task x) made).1 l) l;
   }
-  keeps (Finding s b) a h = finds_keep c R m k k' s b a (refused k.plain (Finding s b)) refl h.0 h
+  keeps (Finding s b) a h = finds_keep c R m k k' s b a (call_refusal k.plain (Finding s b)) refl h.0 h
   keeps Drawing r h = record {
     makes = h;
     state = state_by k k' (record { asked = Drawing; answered = r }) _ (state_with_slip true) refl refl h.after;
-    refusal = ap of_case (ap given h.answer ∙ given_by (case_refusal k.plain Drawing) (slip_of k.plain));
+    refusal = ap of_case (ap draw_refusal h.answer ∙ draw_refusal_by (case_refusal k.plain Drawing) (slip_of k.plain));
     promise = h.answer;
     listed = listed_by k k' (record { asked = Drawing; answered = r }) _ (state_with_slip true) refl refl h.after (λ made. l) l;
   }
@@ -174,7 +173,7 @@ module _ {D : Type 0} (reach : D → Task → ℕ → ℕ → ℕ → Type 0) (m
       → Keeps c (reach d) m (after_calls es) (after_calls (es ++ e ∷ [])) k e.asked e.answered k'
   next_keeps c d es k e k' is listed makes =
       let here = keeps c (reach d) m k k' listed e.asked e.answered makes in
-      let on = subst (λ (p : Plain). Keeps c (reach d) m p (next p e) k e.asked e.answered k') is here in
+      let on = subst (λ (p : Plain). Keeps c (reach d) m p (plain_after p e) k e.asked e.answered k') is here in
       subst (λ (p : Plain). Keeps c (reach d) m (after_calls es) p k e.asked e.answered k') (sym (replay_more unopened es e)) on
 
   pub calls_keep : (c : Choice) (first : D) (es : List Entry) (d : D) (k : State) → Made c reach m first es d k → Law c reach m first es d k

@@ -5,10 +5,10 @@ use Rattle.std.proofs.lemmas.List.{with_items_is}
 use Rattle.std.specs.declared.alloc.Global.{Global}
 use Rattle.rules.specs.Planning.{Task}
 use Rattle.deciders.specs.declared.row.Row.{Row}
-use Rattle.deciders.specs.Reaching.{Same}
+use Rattle.deciders.specs.Reaching.{SameReach}
 use Rattle.waivers.specs.declared.fault.FinderFault.{FinderFault}
 use Rattle.waivers.specs.Searching.{Choice}
-use Rattle.cases.specs.declared.slip.Slip.{Slip}
+use Rattle.cases.specs.declared.slip.SlipData.{SlipData}
 use Rattle.cases.specs.declared.call.Call.{Call}
 use Rattle.cases.specs.declared.call.Answer.{Answer}
 use Rattle.cases.specs.Calls.{Entry, entry_of, Recorded}
@@ -53,27 +53,27 @@ recorded_length (y ∷ xs) (v ∷ ws) (f ∷ es) (first, rest) = let shorter = r
 
 -- The calls xs so far were answered by ws, and each was made as its own contract says; the slip in hand is the one that is out.
 pub record Running {D : Type 0} (c : Choice) (reach : D → Task → ℕ → ℕ → ℕ → Type 0) (m : ℕ) (first : D) (xs : List Call) (ws : List Answer)
-    (d : D) (k : State) (h : Option Slip) : Type 0 where
+    (d : D) (k : State) (h : Option SlipData) : Type 0 where
   pub entries : List Entry
   pub recorded : Recorded xs ws entries
   pub made : Made c reach m first entries d k
   pub in_hand : InHand k.plain h
-  pub same : Same (reach first) (reach d)
+  pub same : SameReach (reach first) (reach d)
 
 module _ {D : Type 0} (c : Choice) (reach : D → Task → ℕ → ℕ → ℕ → Type 0) (m : ℕ) (first : D) where
-  pub running_first : (k : State) (ws : List Answer) (h : Option Slip) → k ≡ fresh → ws ≡ [] → h ≡ None → Same (reach first) (reach first)
+  pub running_first : (k : State) (ws : List Answer) (h : Option SlipData) → k ≡ fresh → ws ≡ [] → h ≡ None → SameReach (reach first) (reach first)
       → Running c reach m first [] ws first k h
   running_first k ws h is empty out same = record {
     entries = [];
     recorded = subst (λ (vs : List Answer). Recorded [] vs []) (sym empty) tt;
     made = subst (λ (n : State). Made c reach m first [] first n) (sym is) unmade;
-    in_hand = subst (λ (n : State). InHand n.plain h) (sym is) (subst (λ (o : Option Slip). InHand fresh.plain o) (sym out) refl);
+    in_hand = subst (λ (n : State). InHand n.plain h) (sym is) (subst (λ (o : Option SlipData). InHand fresh.plain o) (sym out) refl);
     same = same;
   }
 
-  pub running_next : (xs : List Call) (ws ws' : List Answer) (d d' : D) (k k' : State) (h h' : Option Slip) (x : Call) (w : Answer)
+  pub running_next : (xs : List Call) (ws ws' : List Answer) (d d' : D) (k k' : State) (h h' : Option SlipData) (x : Call) (w : Answer)
       → Running c reach m first xs ws d k h
-      → ((e : Entry) × (entry_of x w ≡ Some e) × Makes c (reach d) m k e.asked e.answered k') → Same (reach d) (reach d') → Same (reach first) (reach d')
+      → ((e : Entry) × (entry_of x w ≡ Some e) × Makes c (reach d) m k e.asked e.answered k') → SameReach (reach d) (reach d') → SameReach (reach first) (reach d')
       → InHand k'.plain h' → ws' ≡ ws ++ w ∷ [] → Running c reach m first (xs ++ x ∷ []) ws' d' k' h'
   running_next xs ws ws' d d' k k' h h' x w before (e, is, makes) step same hand on = record {
     entries = before.entries ++ e ∷ [];

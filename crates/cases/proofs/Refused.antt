@@ -1,23 +1,23 @@
 -- What a refusal, or none, says of the case that met a call.
 use Rattle.std.proofs.Common.{◌≡◌, ℕ, Bool, true, false, cond, ◌&&◌, T, eqb, Some, None, Ok, Err, Option, Result, unwrap_or, sym, refl, ap, ◌∙◌, subst, arith, eqb→eq}
-use Rattle.std.proofs.lemmas.Bool.{and_parts}
+use Rattle.std.proofs.lemmas.Bool.{and_parts, false≢true}
 use Rattle.std.specs.Option.{option_eq}
 use Rattle.rules.specs.declared.refusal.Refusal.{Refusal}
 use Rattle.rules.specs.declared.refusal.Refusal.TheVariants.{Unopened, SlipOut, NoFinding, WrongSlip}
-use Rattle.rules.specs.Refusals.{first_refusal, after}
+use Rattle.rules.specs.Refusals.{first_refusal, unless_refused}
 use Rattle.deciders.specs.declared.limits.SizeFault.{SizeFault}
 use Rattle.waivers.specs.declared.fault.FinderFault.{FinderFault}
 use Rattle.waivers.specs.declared.fault.FinderFault.TheVariants.{Case, Size}
 use Rattle.cases.specs.declared.slip.SlipData.{SlipData}
 use Rattle.cases.specs.Plain.{Plain}
 use Rattle.cases.specs.Calls.{Drawing, Signing, Entry}
-use Rattle.cases.specs.Refusing.{usable_refusal, slip_of, is_out, case_refusal, of_case, of_size, refused}
+use Rattle.cases.specs.Refusing.{usable_refusal, slip_of, is_out, case_refusal, of_case, of_size, call_refusal}
 use Rattle.cases.specs.State.{State, state_with_slip}
 use Rattle.cases.specs.Making.{Draws}
-use Rattle.cases.specs.Replay.{rule, unless, next}
+use Rattle.cases.specs.Replay.{effect_of, plain_after}
 
 pub true_false : {A : Type 0} → true ≡ false → A
-true_false e = absurd (let z : ◌≡◌ {A = ℕ} 0 1 = cc in omega arith)
+true_false e = absurd (false≢true (sym e))
 
 -- no call is both made and refused
 pub made_refused : {A E B : Type 0} (a : A) (e : E) → ◌≡◌ {A = Result A E} (Err e) (Ok a) → B
@@ -46,8 +46,8 @@ out_refuses p out = go (eqb p.task.n 0)
     go false = (SlipOut, ap (λ (o : Bool). cond o (Err SlipOut) (Ok tt)) out)
 
 -- what is refused changes nothing
-pub refused_stays : (p : Plain) (e : Entry) → Refuses (refused p e.asked) → next p e ≡ p
-refused_stays p e (f, is) = ap (λ (r : Result Unit FinderFault). unless r p (rule e.asked e.answered p)) is
+pub refused_stays : (p : Plain) (e : Entry) → Refuses (call_refusal p e.asked) → plain_after p e ≡ p
+refused_stays p e (f, is) = ap (λ (r : Result Unit FinderFault). unless_refused r (effect_of e.asked e.answered) p) is
 
 pub of_case_refuses : (r : Result Unit Refusal) → Refuses r → Refuses (of_case r)
 of_case_refuses r (e, is) = (Case e, ap of_case is)
@@ -115,7 +115,7 @@ drawn_taken k k' slip d =
     let (made, is) = made_by (case_refusal p Drawing) p slip d.answer in
     let (usable, own) = both_made (usable_refusal p) _ made in
     let (opened, out) = opened_by (eqb p.task.n 0) _ usable in
-    let after_it : k' ≡ state_with_slip true k = d.after ∙ ap (λ (o : Result Unit Refusal). after o (state_with_slip true) k) made in
+    let after_it : k' ≡ state_with_slip true k = d.after ∙ ap (λ (o : Result Unit Refusal). unless_refused o (state_with_slip true) k) made in
     let here : case_refusal (state_with_slip true k).plain (Signing (slip_of p)) ≡ Ok tt =
     taken_by (eqb p.task.n 0) (eqb p.number p.number) (option_eq eqb p.finding (Some (unwrap_or p.finding 0))) opened (same_number p.number) (found_by p.finding own) in
     subst (λ (n : State). case_refusal n.plain (Signing slip) ≡ Ok tt) (sym after_it)

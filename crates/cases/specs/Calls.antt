@@ -21,7 +21,7 @@ pub data Asked : Type 0 where
   Tearing : SlipData → Asked
 
 -- find answers a set, its size and the plan's length, or why it has none, and leaves sheet and book
-pub record Sought : Type 0 where
+pub record FindAnswer : Type 0 where
   pub result : Result (ℕ × ℕ × ℕ) FinderFault
   pub sheet : List Row
   pub book : List ℕ
@@ -29,7 +29,7 @@ pub record Sought : Type 0 where
 -- what is answered to a call: find has its answer, draw what the slip says or why there is none,
 -- and any other whether it was made
 abbrev pub AnswerTo : Asked → Type 0
-AnswerTo (Finding s b) = Sought
+AnswerTo (Finding s b) = FindAnswer
 AnswerTo Drawing = Result SlipData Refusal
 AnswerTo x = Result Unit Refusal
 

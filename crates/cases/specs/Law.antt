@@ -1,17 +1,19 @@
--- The law over every list of calls.
+-- The law over every list of calls. Throughout c is the picker's choice, reach the decider's reach, m
+-- its mark, first the decider as it was before the first call and d as it is then; k is what the
+-- program's case holds, p a plain case, x a call, and es the calls so far with their answers.
 use Rattle.std.specs.Prelude.{◌≡◌, ℕ, ◌≤◌, List, [], ◌∷◌, ◌++◌, length, take, Ok, Err, IfOk, Result}
 use Rattle.rules.specs.Sets.{size}
 use Rattle.rules.specs.Planning.{Task, Plan, strike, Solvable}
 use Rattle.rules.specs.Waivers.{Good, Hits}
 use Rattle.deciders.specs.declared.answer.DeciderFault.TheVariants.{BeyondReach}
-use Rattle.deciders.specs.Reaching.{Same}
+use Rattle.deciders.specs.Reaching.{SameReach}
 use Rattle.waivers.specs.declared.fault.FinderFault.{FinderFault}
 use Rattle.waivers.specs.declared.fault.FinderFault.TheVariants.{Case, Size, NoWaiver, Decider, ListFull}
 use Rattle.waivers.specs.Known.{Listed}
 use Rattle.waivers.specs.Searching.{Choice}
 use Rattle.cases.specs.Plain.{Plain}
 use Rattle.cases.specs.Calls.{Asked, Finding, Drawing, Signing, AnswerTo, Entry}
-use Rattle.cases.specs.Refusing.{refused, drawing}
+use Rattle.cases.specs.Refusing.{call_refusal, drawn_answer}
 use Rattle.cases.specs.State.{State, fresh, known_of}
 use Rattle.cases.specs.Making.{Makes}
 use Rattle.cases.specs.Replay.{refusal_in, after_calls}
@@ -40,8 +42,8 @@ abbrev pub FoundTruly : (ℕ → Type 0) → ℕ → Task → List ℕ → List 
 FoundTruly R m p gs b (Ok (s, count, n)) = IsWaiver p b s count n
 FoundTruly R m p gs b (Err (Case e)) = Unit {0}
 FoundTruly R m p gs b (Err (Size e)) = Unit {0}
-FoundTruly R m p gs b (Err NoWaiver) = (x : ℕ) → Good p x → ⊥
-FoundTruly R m p gs b (Err (Decider (BeyondReach s j))) = (R s → ⊥) × (j ≡ m)
+FoundTruly R m p gs b (Err NoWaiver) = (x : ℕ) → ¬ Good p x
+FoundTruly R m p gs b (Err (Decider (BeyondReach s j))) = ¬ R s × (j ≡ m)
 FoundTruly R m p gs b (Err (ListFull h)) = IsFull p gs
 
 -- ---- what each call promises
@@ -53,7 +55,7 @@ abbrev pub Promised : (Task → ℕ → ℕ → ℕ → Type 0) → ℕ → Plai
     → Plain → List ℕ → Type 0
 Promised reach m p (Finding s b) a p' gs =
     FoundTruly (λ x. reach p.task x (length s) (length b)) m p.task gs a.book a.result
-Promised reach m p Drawing r p' gs = r ≡ drawing p
+Promised reach m p Drawing r p' gs = r ≡ drawn_answer p
 Promised reach m p (Signing slip) r p' gs = IfOk r (λ u. Solvable p'.task 0)
 Promised reach m p x r p' gs = Unit {0}
 
@@ -65,7 +67,7 @@ pub record Keeps (c : Choice) (reach : Task → ℕ → ℕ → ℕ → Type 0) 
     (x : Asked) (r : AnswerTo x) (k' : State) : Type 0 where
   pub makes : Makes c reach m k x r k'
   pub state : k'.plain ≡ p'
-  pub refusal : refusal_in x r ≡ refused p x
+  pub refusal : refusal_in x r ≡ call_refusal p x
   pub promise : Promised reach m p x r p' k'.groups
   pub listed : Listed (known_of k')
 
@@ -81,7 +83,7 @@ pub data Runs {D : Type 0} (c : Choice) (reach : D → Task → ℕ → ℕ → 
   more : {es : List Entry} {d : D} {k : State} → Runs c reach m first es d k
       → (e : Entry) (d' : D) (k' : State)
       → Keeps c (reach d) m (after_calls es) (after_calls (es ++ e ∷ [])) k e.asked e.answered k'
-      → Same (reach d) (reach d')
+      → SameReach (reach d) (reach d')
       → Runs c reach m first (es ++ e ∷ []) d' k'
 
 -- The law: each call kept it on the case as it then stood, and at the end the case holds the plain

@@ -5,7 +5,6 @@ pub mod Calls
 pub mod Refusing
 pub mod Slips
 pub mod State
-pub mod View
 pub mod Finding
 pub mod Checks
 pub mod Making

@@ -2,14 +2,14 @@
 use Rattle.std.specs.Prelude.{◌≡◌, ℕ, true, false, List, [], ◌∷◌, ◌++◌, length, Ok, Err, IfOk, Result}
 use Rattle.rules.specs.declared.refusal.Refusal.{Refusal}
 use Rattle.rules.specs.Planning.{Task, Solvable}
-use Rattle.rules.specs.Refusals.{after}
-use Rattle.deciders.specs.Reaching.{Same}
+use Rattle.rules.specs.Refusals.{unless_refused}
+use Rattle.deciders.specs.Reaching.{SameReach}
 use Rattle.waivers.specs.declared.change.Change.{Change}
 use Rattle.waivers.specs.Known.{Listed}
 use Rattle.waivers.specs.Searching.{Choice}
 use Rattle.cases.specs.declared.slip.SlipData.{SlipData}
 use Rattle.cases.specs.Calls.{Asked, Opening, Changing, Finding, Drawing, Signing, Tearing, AnswerTo, Entry}
-use Rattle.cases.specs.Refusing.{case_refusal, drawing}
+use Rattle.cases.specs.Refusing.{case_refusal, drawn_answer}
 use Rattle.cases.specs.State.{State, fresh, known_of, state_opened, state_changed, state_signed, state_with_slip}
 use Rattle.cases.specs.Finding.{Finds}
 
@@ -20,7 +20,7 @@ use Rattle.cases.specs.Finding.{Finds}
 pub record MadeOrRefused (o : Result Unit Refusal) (f : State → State) (k : State)
     (r : Result Unit Refusal) (k' : State) : Type 0 where
   pub answer : r ≡ o
-  pub after : k' ≡ after o f k
+  pub after : k' ≡ unless_refused o f k
 
 -- open
 abbrev pub Opens : ℕ → ℕ → ℕ → ℕ → State → Result Unit Refusal → State → Type 0
@@ -33,8 +33,8 @@ Changes x k r k' = MadeOrRefused (case_refusal k.plain (Changing x)) (state_chan
 
 -- draw: the answer is what the slip says, or why none is drawn; the slip is out then
 pub record Draws (k : State) (r : Result SlipData Refusal) (k' : State) : Type 0 where
-  pub answer : r ≡ drawing k.plain
-  pub after : k' ≡ after (case_refusal k.plain Drawing) (state_with_slip true) k
+  pub answer : r ≡ drawn_answer k.plain
+  pub after : k' ≡ unless_refused (case_refusal k.plain Drawing) (state_with_slip true) k
 
 -- sign, and a signed slip leaves a case that has a plan
 pub record Signs (slip : SlipData) (k : State) (r : Result Unit Refusal) (k' : State)
@@ -77,5 +77,5 @@ pub data Made {D : Type 0} (c : Choice) (reach : D → Task → ℕ → ℕ → 
   then : {es : List Entry} {d : D} {k : State} → Made c reach m first es d k
       → (e : Entry) (d' : D) (k' : State)
       → Makes c (reach d) m k e.asked e.answered k'
-      → Same (reach d) (reach d')
+      → SameReach (reach d) (reach d')
       → Made c reach m first (es ++ e ∷ []) d' k'

@@ -1,5 +1,5 @@
 -- When a plain case refuses a call.
-use Rattle.std.specs.Prelude.{Bool, cond, ◌&&◌, length, unwrap_or, Some, Ok, Err, Result, ◌==◌}
+use Rattle.std.specs.Prelude.{Bool, if◌then◌else◌, ◌&&◌, length, unwrap_or, Some, Ok, Err, Result, ◌==◌}
 use Rattle.std.specs.Option.{option_eq}
 use Rattle.rules.specs.declared.refusal.Refusal.{Refusal}
 use Rattle.rules.specs.declared.refusal.Refusal.TheVariants.{Unopened, AlreadyOpen, SlipOut, NoFinding, WrongSlip}
@@ -17,16 +17,16 @@ use Rattle.cases.specs.Calls.{Asked, Opening, Changing, Finding, Drawing, Signin
 
 -- why an unopened case is refused
 abbrev pub opened_refusal : Plain → Result Unit Refusal
-opened_refusal p = cond (p.task.n == 0) (Err Unopened) (Ok tt)
+opened_refusal p = if p.task.n == 0 then Err Unopened else Ok tt
 
 -- why a case is refused that is unopened, or of which a slip is out
 abbrev pub usable_refusal : Plain → Result Unit Refusal
-usable_refusal p = first_refusal (opened_refusal p) (cond p.slip_out (Err SlipOut) (Ok tt))
+usable_refusal p = first_refusal (opened_refusal p) (if p.slip_out then Err SlipOut else Ok tt)
 
 -- open wants an unopened case, sign and tear an opened one, and each other call one of which no
 -- slip is out
 abbrev pub admission : Plain → Asked → Result Unit Refusal
-admission p (Opening number n s o) = cond (p.task.n == 0) (Ok tt) (Err AlreadyOpen)
+admission p (Opening number n s o) = if p.task.n == 0 then Ok tt else Err AlreadyOpen
 admission p (Signing slip) = opened_refusal p
 admission p (Tearing slip) = opened_refusal p
 admission p x = usable_refusal p
@@ -48,9 +48,9 @@ abbrev pub own_refusal : Plain → Asked → Result Unit Refusal
 own_refusal p (Opening number n s o) = open_refusal n s o
 own_refusal p (Changing x) = refusal_of p.task x
 own_refusal p (Finding s b) = Ok tt
-own_refusal p Drawing = cond (unwrap_or p.finding 0 == 0) (Err NoFinding) (Ok tt)
-own_refusal p (Signing slip) = cond (is_out p slip) (Ok tt) (Err WrongSlip)
-own_refusal p (Tearing slip) = cond (is_out p slip) (Ok tt) (Err WrongSlip)
+own_refusal p Drawing = if unwrap_or p.finding 0 == 0 then Err NoFinding else Ok tt
+own_refusal p (Signing slip) = if is_out p slip then Ok tt else Err WrongSlip
+own_refusal p (Tearing slip) = if is_out p slip then Ok tt else Err WrongSlip
 
 -- what the case itself refuses
 abbrev pub case_refusal : Plain → Asked → Result Unit Refusal
@@ -69,12 +69,12 @@ of_size (Ok u) = Ok tt
 of_size (Err e) = Err (Size e)
 
 -- why a plain case refuses a call, or not; find is refused for its sheet or its book too
-abbrev pub refused : Plain → Asked → Result Unit FinderFault
-refused p (Finding s b) =
+abbrev pub call_refusal : Plain → Asked → Result Unit FinderFault
+call_refusal p (Finding s b) =
     first_refusal (of_case (case_refusal p (Finding s b)))
     (of_size (size_refusal (length s) (length b)))
-refused p x = of_case (case_refusal p x)
+call_refusal p x = of_case (case_refusal p x)
 
 -- what a draw gives: a slip for the finding, or why none is drawn
-abbrev pub drawing : Plain → Result SlipData Refusal
-drawing p = first_refusal (case_refusal p Drawing) (Ok (slip_of p))
+abbrev pub drawn_answer : Plain → Result SlipData Refusal
+drawn_answer p = first_refusal (case_refusal p Drawing) (Ok (slip_of p))

@@ -1,7 +1,8 @@
 -- A case in plain terms: a plain case with its group list; and what accepted calls make of both.
-use Rattle.std.specs.Prelude.{ℕ, Bool, false, List, [], None, Option}
+use Rattle.std.specs.Prelude.{ℕ, Bool, false, List, [], None, Option, IfSome}
+use Rattle.rules.specs.Waivers.{Good}
 use Rattle.waivers.specs.declared.change.Change.{Change}
-use Rattle.waivers.specs.Known.{Known}
+use Rattle.waivers.specs.Known.{Known, Listed}
 use Rattle.waivers.specs.Changes.{task_after, fate_of, groups_after, task_opened, task_waived}
 use Rattle.cases.specs.declared.slip.SlipData.{SlipData}
 use Rattle.cases.specs.Plain.{Plain, unopened}
@@ -18,6 +19,11 @@ fresh = record { plain = unopened; groups = [] }
 -- the task and the groups of a case
 abbrev pub known_of : State → Known
 known_of k = record { task = k.plain.task; groups = k.groups }
+
+-- what is always so of a case: what was found is a good set of its task, and its groups are listed
+pub record SoundCase (finding : Option ℕ) (k : Known) : Type 0 where
+  pub good : IfSome finding (Good k.task)
+  pub listed : Listed k
 
 -- ---- what accepted calls make of the plain case
 

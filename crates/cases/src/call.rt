@@ -5,7 +5,8 @@ use deciders::Row;
 use rules::{Facts, Refusal};
 use waivers::{Change, FinderFault};
 
-/// A call of a case. Find brings its working sheet and its plan book; sign and tear bring what some slip says.
+/// A call of a case. Find brings its working sheet and its plan book; sign and tear bring what some
+/// slip says.
 #[derive(Drop)]
 pub enum Call {
     Open {

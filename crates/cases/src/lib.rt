@@ -3,13 +3,9 @@
 #![tactic(auto)]
 
 mod call;
-mod calls;
 mod case;
-mod find;
-mod opening;
 mod running;
 mod slip;
-mod slips;
 mod theorems;
 
 pub use call::{Answer, Call};

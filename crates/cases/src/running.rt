@@ -1,12 +1,11 @@
 //! Lists of calls, made one after another on a fresh case.
 
-ghost use Rattle.std.specs.Prelude.{◌≡◌, List, Some, MatchResult, IfOk};
-ghost use Rattle.deciders.specs.Reaching.{Same};
+ghost use Rattle.std.specs.Prelude.{◌≡◌, ◌≢◌, List, Some, MatchResult, IfOk};
+ghost use Rattle.deciders.specs.Reaching.{SameReach};
 ghost use Rattle.waivers.specs.Known.{Listed};
 ghost use Rattle.cases.specs.State.{known_of};
-ghost use Rattle.cases.specs.View.{view};
 ghost use Rattle.cases.specs.Calls.{Entry, entry_of, Recorded};
-ghost use Rattle.cases.specs.Slips.{content_of, InHand, SaysOther};
+ghost use Rattle.cases.specs.Slips.{InHand};
 ghost use Rattle.cases.specs.Making.{Draws, Signs, Tears, Makes};
 ghost use Rattle.cases.specs.Law.{Law};
 
@@ -18,7 +17,8 @@ use pickers::Picker;
 use rules::Refusal;
 use std::alloc::{AllocFailed, Global};
 
-/// What a list of calls comes to: what each call answered, the case then, and its slip where one is out.
+/// What a list of calls comes to: what each call answered, the case then, and its slip where one is
+/// out.
 pub struct Outcome {
     pub answers: Vec<Answer>,
     pub case: Case,
@@ -27,9 +27,9 @@ pub struct Outcome {
 
 /// Draws a slip. While one is in hand the case refuses, and no other is drawn.
 fn draw(case: &mut Case, in_hand: Option<Slip>) -> (Result<SlipData, Refusal>, Option<Slip>)
-    requires { InHand (view case.old).plain in_hand }
-    ensures draws { Draws (view case.old) result.0 (view case.new) }
-    ensures in_hand { InHand (view case.new).plain result.1 }
+    requires { InHand case.old.plain in_hand }
+    ensures draws { Draws case.old result.0 case.new }
+    ensures in_hand { InHand case.new.plain result.1 }
 {
     if let Some(slip) = in_hand {
         return (Err(Refusal::SlipOut), Some(slip));
@@ -43,8 +43,8 @@ fn draw(case: &mut Case, in_hand: Option<Slip>) -> (Result<SlipData, Refusal>, O
 /// The slip in hand, if it says this; else what is in hand stays there.
 fn take(in_hand: Option<Slip>, content: SlipData) -> Result<Slip, Option<Slip>>
     ensures { MatchResult result
-        (λ slip. (in_hand ≡ Some slip) × (content_of slip ≡ content))
-        (λ left. (left ≡ in_hand) × SaysOther content in_hand) }
+        (λ slip. (slip ≡ content) × (in_hand ≡ Some content))
+        (λ left. (left ≡ in_hand) × (in_hand ≢ Some content)) }
 {
     match in_hand {
         Some(slip) => {
@@ -58,15 +58,16 @@ fn take(in_hand: Option<Slip>, content: SlipData) -> Result<Slip, Option<Slip>>
     }
 }
 
-/// Signs the slip in hand, if it says this. What says anything else is not the slip that is out, and the case refuses it.
+/// Signs the slip in hand, if it says this. What says anything else is not the slip that is out,
+/// and the case refuses it.
 fn sign(
     case: &mut Case,
     in_hand: Option<Slip>,
     content: SlipData,
 ) -> (Result<(), Refusal>, Option<Slip>)
-    requires { InHand (view case.old).plain in_hand }
-    ensures signs { Signs content (view case.old) result.0 (view case.new) }
-    ensures in_hand { InHand (view case.new).plain result.1 }
+    requires { InHand case.old.plain in_hand }
+    ensures signs { Signs content case.old result.0 case.new }
+    ensures in_hand { InHand case.new.plain result.1 }
 {
     match take(in_hand, content) {
         Err(in_hand) => (case.check_slip(content), in_hand),
@@ -77,15 +78,16 @@ fn sign(
     }
 }
 
-/// Tears the slip in hand, if it says this. What says anything else is not the slip that is out, and the case refuses it.
+/// Tears the slip in hand, if it says this. What says anything else is not the slip that is out,
+/// and the case refuses it.
 fn tear(
     case: &mut Case,
     in_hand: Option<Slip>,
     content: SlipData,
 ) -> (Result<(), Refusal>, Option<Slip>)
-    requires { InHand (view case.old).plain in_hand }
-    ensures tears { Tears content (view case.old) result.0 (view case.new) }
-    ensures in_hand { InHand (view case.new).plain result.1 }
+    requires { InHand case.old.plain in_hand }
+    ensures tears { Tears content case.old result.0 case.new }
+    ensures in_hand { InHand case.new.plain result.1 }
 {
     match take(in_hand, content) {
         Err(in_hand) => (case.check_slip(content), in_hand),
@@ -104,12 +106,12 @@ fn make<D: Decider, P: Picker>(
     picker: &P,
     call: Call,
 ) -> (Answer, Option<Slip>)
-    requires { InHand (view case.old).plain in_hand }
+    requires { InHand case.old.plain in_hand }
     ensures makes { (e : Entry) × (entry_of call result.0 ≡ Some e)
         × Makes (P.choice picker.now) (D.reach decider.old) D.MARK
-        (view case.old) e.asked e.answered (view case.new) }
-    ensures in_hand { InHand (view case.new).plain result.1 }
-    ensures same { Same (D.reach decider.old) (D.reach decider.new) }
+        case.old e.asked e.answered case.new }
+    ensures in_hand { InHand case.new.plain result.1 }
+    ensures same { SameReach (D.reach decider.old) (D.reach decider.new) }
 {
     match call {
         Call::Open {
@@ -146,11 +148,12 @@ fn make<D: Decider, P: Picker>(
     }
 }
 
-/// Makes the calls in turn on a fresh case, refused or not, and hands back the answers, with the buffers of every find, the case, and
-/// its slip where one is out. Sign and tear are made with the slip that was drawn, if it says what they bring; else they are refused.
+/// Makes the calls in turn on a fresh case, refused or not, and hands back the answers, with the
+/// buffers of every find, the case, and its slip where one is out. Sign and tear are made with the
+/// slip that was drawn, if it says what they bring; else they are refused.
 ///
-/// All memory is reserved before the first call. Where there is none, no call is made, and the list is handed back. Whether there is, no
-/// contract says.
+/// All memory is reserved before the first call. Where there is none, no call is made, and the list
+/// is handed back. Whether there is, no contract says.
 pub fn run<D: Decider, P: Picker>(
     heap: Global,
     decider: &mut D,
@@ -159,17 +162,17 @@ pub fn run<D: Decider, P: Picker>(
 ) -> Result<Outcome, AllocFailed<Vec<Call>>>
     ensures law { MatchResult result
         (λ r. (es : List Entry) × Recorded calls.items r.answers.items es
-        × Law (P.choice picker.now) D.reach D.MARK decider.old es decider.new (view r.case))
+        × Law (P.choice picker.now) D.reach D.MARK decider.old es decider.new r.case)
         (λ e. (e.value ≡ calls) × (decider.new ≡ decider.old)) }
-    ensures slip { IfOk result (λ r. InHand (view r.case).plain r.slip) }
-    ensures same { Same (D.reach decider.old) (D.reach decider.new) }
+    ensures slip { IfOk result (λ r. InHand r.case.plain r.slip) }
+    ensures same { SameReach (D.reach decider.old) (D.reach decider.new) }
 {
     let (Ok(mut case), Ok(mut answers)) = (Case::new(heap), Vec::with_capacity(heap, calls.len()))
     else {
         return Err(AllocFailed { value: calls });
     };
     let mut slip = None;
-    // Kept: a loop, since the law is its invariant.
+    // A loop, since the law is its invariant.
     for call in calls {
         let (answer, in_hand) = make(&mut case, slip, decider, picker, call);
         slip = in_hand;

@@ -4,14 +4,14 @@ ghost use Rattle.cases.specs.Theorems.{CallsKeepTheLaw, NextCallKeepsTheLaw, Sli
 
 use deciders::Decider;
 
-/// Whatever calls a host makes on a fresh case, each as its own contract says, keep the law: with one decider of this type, and one
-/// picker of any choice.
+/// Whatever calls a host makes on a fresh case, each as its own contract says, keep the law: with
+/// one decider of this type, and one picker of any choice.
 pub fn calls_keep_the_law<D: Decider>()
     ensures { CallsKeepTheLaw D.reach D.MARK }
 {}
 
-/// On a case that holds what the calls so far make of a fresh one, and lists only its groups, one call more keeps the law, whichever
-/// decider of this type and whichever picker it is made with.
+/// On a case that holds what the calls so far make of a fresh one, and lists only its groups, one
+/// call more keeps the law, whichever decider of this type and whichever picker it is made with.
 pub fn next_call_keeps_the_law<D: Decider>()
     ensures { NextCallKeepsTheLaw D.reach D.MARK }
 {}

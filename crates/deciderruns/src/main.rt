@@ -1,4 +1,5 @@
-//! Runs of the deciders: worked cases, limits, long plans, and random problems against a naive second way.
+//! Runs of the deciders: worked cases, limits, long plans, and random problems against a naive
+//! second way.
 
 #![tactic(auto)]
 
@@ -116,15 +117,10 @@ fn run_large(rt: &HostRuntime, count: &Problem, switched: &Problem) -> io::Resul
 }
 
 fn run(rt: &HostRuntime) -> Result<(), RunFault> {
-    // Kept: `?` on a problem gets no proof, since its table holds steps, which have a model.
-    let (Ok(free), Ok(case), Ok(count), Ok(switched)) = (
-        free_facts(),
-        licence(),
-        counter(),
-        switches(),
-    ) else {
-        return Err(RunFault::Refused);
-    };
+    let free = free_facts()?;
+    let case = licence()?;
+    let count = counter()?;
+    let switched = switches()?;
     run_free(rt, &free)?;
     run_licence(rt, &case)?;
     run_limits(rt, &case)?;

@@ -1,4 +1,5 @@
-//! A second way to tell whether a small problem has a plan: mark standings until no more are marked.
+//! A second way to tell whether a small problem has a plan: mark standings until no more are
+//! marked.
 
 use rules::{Facts, Problem, difference, is_subset};
 
@@ -28,7 +29,8 @@ fn mark_once(problem: &Problem, gone: Facts, marked: &mut [bool; STANDINGS]) {
     }
 }
 
-/// How many standings of a problem of six facts can be reached, and whether the order stands in one of them.
+/// How many standings of a problem of six facts can be reached, and whether the order stands in one
+/// of them.
 pub(crate) fn reachable(problem: &Problem, strike: Facts) -> (usize, bool) {
     let gone = strike | problem.waived;
     let order = difference(problem.order, gone);

@@ -17,7 +17,8 @@ pub(crate) fn free_facts() -> Result<Problem, Refusal> {
     })
 }
 
-/// Fact 1 stands and fact 3 is ordered. Step 0 needs 1 and 2, gives 3 and takes 1; step 1 needs 0 and gives 2.
+/// Fact 1 stands and fact 3 is ordered. Step 0 needs 1 and 2, gives 3 and takes 1; step 1 needs 0
+/// and gives 2.
 pub(crate) fn licence() -> Result<Problem, Refusal> {
     let mut table = StepTable::new();
     table.put(0, Step::new(0b0110, 0b1000, 0b0010)?)?;
@@ -31,7 +32,8 @@ pub(crate) fn licence() -> Result<Problem, Refusal> {
     })
 }
 
-/// A binary counter of nine digits: fact `i` is the digit 1 at `i`, and fact `9 + i` the digit 0. It counts from 0 up to 511.
+/// A binary counter of nine digits: fact `i` is the digit 1 at `i`, and fact `9 + i` the digit 0.
+/// It counts from 0 up to 511.
 pub(crate) fn counter() -> Result<Problem, Refusal> {
     let mut table = StepTable::new();
     for i in 0..9u8 {
@@ -55,7 +57,8 @@ pub(crate) fn counter() -> Result<Problem, Refusal> {
     })
 }
 
-/// Twelve facts that are switched on and off freely, and two more: with fact 12, which nothing gives, one gets the ordered fact 13.
+/// Twelve facts that are switched on and off freely, and two more: with fact 12, which nothing
+/// gives, one gets the ordered fact 13.
 pub(crate) fn switches() -> Result<Problem, Refusal> {
     let mut table = StepTable::new();
     for i in 0..12u8 {

@@ -3,7 +3,8 @@
 use rules::{Facts, Problem, difference, is_subset};
 use std::fmt;
 
-/// A problem, what is struck out of it, and how many rows and places the sheet and the plan book have.
+/// A problem, what is struck out of it, and how many rows and places the sheet and the plan book
+/// have.
 #[derive(Clone, Copy)]
 pub struct Query<'a> {
     pub problem: &'a Problem,
@@ -43,7 +44,8 @@ impl fmt::Display for Query<'_> {
     }
 }
 
-/// Whether the places of `plan` can be done in turn and the order then stands, with the facts of `strike` struck out.
+/// Whether the places of `plan` can be done in turn and the order then stands, with the facts of
+/// `strike` struck out.
 fn walks(problem: &Problem, strike: Facts, plan: &[u8]) -> bool {
     let gone = strike | problem.waived;
     let mut facts = difference(problem.standing.facts, gone);

@@ -53,7 +53,8 @@ pub struct Tally {
 }
 
 impl Tally {
-    /// Counts an answer, which is wrong unless it agrees with the second way. With 64 rows nothing of six facts is beyond reach.
+    /// Counts an answer, which is wrong unless it agrees with the second way. With 64 rows nothing
+    /// of six facts is beyond reach.
     fn add(
         &mut self,
         answer: Result<Verdict, DeciderFault>,
@@ -134,11 +135,8 @@ pub(crate) fn compare() -> Result<Tally, Refusal> {
     let mut asked = Asked::default();
     let mut tally = Tally::default();
     for _ in 0..PROBLEMS {
-        // Kept: `?` on a problem gets no proof, since its table holds steps, which have a model.
-        match problem(&mut sets) {
-            Ok(problem) => ask_all(&mut asked, &problem, sets.few(), &mut tally),
-            Err(refusal) => return Err(refusal),
-        }
+        let problem = problem(&mut sets)?;
+        ask_all(&mut asked, &problem, sets.few(), &mut tally);
     }
     Ok(tally)
 }

@@ -2,11 +2,11 @@
 use Rattle.std.proofs.Common.{◌≡◌, ℕ, ◌+◌, ◌-◌, ◌<◌, ◌≤◌, T, true, false, List, [], ◌∷◌, ◌++◌, length, get_or, set, replicate, sym, ap, ◌∙◌, subst, inl, inr, arith}
 use Rattle.std.proofs.lemmas.Bool.{cases_eq, false_from_ne_true}
 use Rattle.std.proofs.lemmas.Grind.{common_steps}
-use Rattle.rules.specs.Listing.{listed}
-use Rattle.rules.proofs.Listing.{T→true, listed→, →listed}
+use Rattle.rules.specs.Listing.{is_listed}
+use Rattle.rules.proofs.Listing.{T→true, is_listed→, →is_listed}
 use Rattle.deciders.specs.declared.row.Row.{Row}
-use Rattle.deciders.specs.Rows.{row, entries}
-use Rattle.deciders.specs.Chains.{hash_of, link, Indexed}
+use Rattle.deciders.specs.Search.Rows.{row, entries}
+use Rattle.deciders.specs.Search.Chains.{hash_of, link, Indexed}
 
 -- ---- the sets of the first rows
 
@@ -69,9 +69,9 @@ pub record Looking (l : List ℕ) (s link : ℕ) : Type 0 where
 
 -- the same, over the rows that the code reads
 module _ (sheet : List Row) (n s : ℕ) (fits : n ≤ length sheet) (start number : ℕ) (x : Looking (entries sheet n) s (link start number)) where
-  pub missing : (start ≤ number → ⊥) → false ≡ listed s (entries sheet n)
-  missing none = sym (false_from_ne_true (listed s (entries sheet n)) (λ t.
-      let (i, h, q) = listed→ s (entries sheet n) (subst T (sym t) tt) in absurd (omega (arith, x.left i h q))))
+  pub missing : (start ≤ number → ⊥) → false ≡ is_listed s (entries sheet n)
+  missing none = sym (false_from_ne_true (is_listed s (entries sheet n)) (λ t.
+      let (i, h, q) = is_listed→ s (entries sheet n) (subst T (sym t) tt) in absurd (omega (arith, x.left i h q))))
 
   module _ (i : ℕ) (from : start ≤ number) (is : i ≡ number - start) where
     pub in_count : i < n
@@ -96,6 +96,6 @@ module _ (sheet : List Row) (n s : ℕ) (fits : n ≤ length sheet) (start numbe
     pub falls_on : (heads links : List ℕ) → Indexed start heads links (entries sheet n) → link start (get_or links i 0) < link start number
     falls_on heads links y = omega (arith, y.falls i (omega (arith, in_count, entries_length sheet n fits)))
 
-    pub found : (row sheet i).set ≡ s → true ≡ listed s (entries sheet n)
-    found e = sym (T→true (listed s (entries sheet n))
-        (→listed s (entries sheet n) (i, omega (arith, in_count, entries_length sheet n fits), entries_at sheet n i fits in_count ∙ e)))
+    pub found : (row sheet i).set ≡ s → true ≡ is_listed s (entries sheet n)
+    found e = sym (T→true (is_listed s (entries sheet n))
+        (→is_listed s (entries sheet n) (i, omega (arith, in_count, entries_length sheet n fits), entries_at sheet n i fits in_count ∙ e)))

@@ -2,7 +2,7 @@
 use Rattle.std.proofs.Common.{◌≡◌, ℕ, ◌+◌, ◌<◌, List, [], ◌∷◌, ◌++◌, length, take, set, sym, refl, subst}
 use Rattle.std.proofs.lemmas.List.{take_more_set}
 use Rattle.deciders.specs.declared.row.Row.{Row}
-use Rattle.deciders.specs.Rows.{row, Climbs}
+use Rattle.deciders.specs.Search.Rows.{row, Climbs}
 
 -- on from the row i
 climbs_push : (sheet : List Row) (j : ℕ) (l : List ℕ) (i : ℕ) → Climbs sheet j l i → 0 < i → Climbs sheet j (l ++ (row sheet i).place ∷ []) (row sheet i).parent

@@ -1,12 +1,15 @@
 -- Closures: one round, the closure as the last of many rounds, and what is outside it.
 use Rattle.std.proofs.Common.{Bool, true, false, not, IsTrue, ◌↔◌, ◌≡◌, ℕ, zero, suc, ◌+◌, ◌<◌, ◌≤◌, ◌⊎◌, List, [], ◌∷◌, map, length, get_or, Some, None, Option, refl, sym, ap, ◌∙◌, subst, inl, inr, arith}
+use lib.ListN.{get_or-map}
 use Rattle.std.proofs.lemmas.Bool.{cases_eq}
 use Rattle.std.proofs.lemmas.Grind.{common_steps}
 use Rattle.rules.specs.Steps.{Step}
 use Rattle.rules.specs.Sets.{bit, ◌⊆◌, ◌∪◌, ◌∖◌}
-use Rattle.rules.specs.Planning.{Task, done, Leads, place_without, step_without, gone, strike}
+use Rattle.rules.specs.Planning.{Task, result_of, Leads, place_without, step_without, struck_facts, strike}
 use Rattle.rules.proofs.Sets.{bits, sub_le, same_facts, inside_dec}
-use Rattle.deciders.specs.Closures.{Under, Closed, Closure, Round}
+use Rattle.rules.proofs.Tables.{all_gives}
+use Rattle.rules.proofs.Plans.{some_without}
+use Rattle.deciders.specs.Closures.{Under, ClosedUnder, Closure, Round}
 use Rattle.deciders.specs.Reaches.{ScreenedOut}
 use Rattle.deciders.specs.Theorems.{ClosureExists, ClosureUnique, ScreenedBlocked}
 
@@ -50,7 +53,7 @@ module _ (ts : List (Option Step)) where
   -- c holds what stands, and is inside every closed set
   pub record Closing (s c : ℕ) : Type 0 where
     pub holds : s ⊆ c
-    pub least : (d : ℕ) → Closed ts s d → c ⊆ d
+    pub least : (d : ℕ) → ClosedUnder ts s d → c ⊆ d
 
   pub closing_start : (s : ℕ) → Closing s s
   closing_start s = grind arith
@@ -67,7 +70,7 @@ module _ (ts : List (Option Step)) where
   -- ---- there is a closure
 
   -- a round closes the set, or makes it larger, inside every closed set
-  closing_step : (s d : ℕ) → Closed ts s d → (c : ℕ) → Closing s c → ((e : ℕ) × Closure ts s e) ⊎ ((r : ℕ) × Closing s r × (c < r) × (r ≤ d))
+  closing_step : (s d : ℕ) → ClosedUnder ts s d → (c : ℕ) → Closing s c → ((e : ℕ) × Closure ts s e) ⊎ ((r : ℕ) × Closing s r × (c < r) × (r ≤ d))
   closing_step s d z c x =
       let (r, y) = round_exists (length ts) c in
       let more = closing_more s (length ts) c r x y in
@@ -76,7 +79,7 @@ module _ (ts : List (Option Step)) where
         | inr new ↦ inr (r, more, closing_rises (length ts) c r y new, sub_le d r (more.least d z))
       ]
 
-  closing_on : (s d : ℕ) → Closed ts s d → (k c : ℕ) → Closing s c → d ≤ k + c → (e : ℕ) × Closure ts s e
+  closing_on : (s d : ℕ) → ClosedUnder ts s d → (k c : ℕ) → Closing s c → d ≤ k + c → (e : ℕ) × Closure ts s e
   closing_on s d z zero c x h = elim (closing_step s d z c x) [
     | inl found ↦ found
     | inr (r, y, up, low) ↦ absurd (omega arith)
@@ -85,18 +88,6 @@ module _ (ts : List (Option Step)) where
     | inl found ↦ found
     | inr (r, y, up, low) ↦ closing_on s d z k r y (omega arith)
   ]
-
-all_gives : (ts : List (Option Step)) → (g : ℕ) × ((i : ℕ) (t : Step) → get_or ts i None ≡ Some t → t.gives ⊆ g)
-all_gives [] = (0, λ i t e. cc)
-all_gives (None ∷ ts) = let (g, h) = all_gives ts in
-    (g, λ i. elim i as (λ i. (t : Step) → get_or (None ∷ ts) i None ≡ Some t → t.gives ⊆ g) [ zero ↦ (λ t e. cc) | suc j ↦ h j ])
-all_gives (Some u ∷ ts) = let (g, h) = all_gives ts in (
-  u.gives ∪ g,
-  λ i. elim i as (λ i. (t : Step) → get_or (Some u ∷ ts) i None ≡ Some t → t.gives ⊆ u.gives ∪ g) [
-    | zero ↦ (λ t e f. let q : u ≡ t = cc in omega (arith, bits, ap (λ (v : Step). bit v.gives f) q))
-    | suc j ↦ (λ t e. let y = h j t e in λ f. omega (arith, bits, y f))
-  ],
-)
 
 pub closure_exists : ClosureExists
 closure_exists ts s =
@@ -118,34 +109,23 @@ stays_inside : (p : Task) (c : ℕ) → Under p.steps c → (s : ℕ) (l : List 
 stays_inside p c u s [] sub o = λ f. omega (arith, sub f, o f)
 stays_inside p c u s (i ∷ l) sub (t, is, can, on) =
     let gives = u i t is (λ f. omega (arith, can f, sub f)) in
-    stays_inside p c u (done t s) l (λ f. omega (arith, bits, sub f, gives f)) on
+    stays_inside p c u (result_of t s) l (λ f. omega (arith, bits, sub f, gives f)) on
 
 pub screened_blocked : ScreenedBlocked
 screened_blocked p (c, x, out) l plan = out (stays_inside p c x.0.1 p.standing l x.0.0 plan)
 
 -- ---- facts struck out
 
--- what the place i holds without the facts of g
-without_at : (g : ℕ) (ts : List (Option Step)) (i : ℕ) → get_or (map (place_without g) ts) i None ≡ place_without g (get_or ts i None)
-without_at g [] i = refl
-without_at g (o ∷ ts) zero = refl
-without_at g (o ∷ ts) (suc i) = without_at g ts i
-
--- a step without the facts of g is one of the steps, without them
-struck_from : (g : ℕ) (o : Option Step) (t : Step) → place_without g o ≡ Some t → (u : Step) × (o ≡ Some u) × (step_without g u ≡ t)
-struck_from g None t e = cc
-struck_from g (Some u) t e = (u, refl, cc)
-
 module _ (g : ℕ) (ts : List (Option Step)) where
   under_without : (c : ℕ) → g ⊆ c → Under ts c → Under (map (place_without g) ts) (c ∖ g)
   under_without c all under i t e can =
-      let (u, is, same) = struck_from g (get_or ts i None) t (sym (without_at g ts i) ∙ e) in
+      let (u, is, same) = some_without g (get_or ts i None) t (sym (get_or-map (place_without g) ts i None) ∙ e) in
       let gives = under i u is (λ f. omega (arith, bits, all f, can f, ap (λ (v : Step). bit v.needs f) same)) in
       λ f. omega (arith, bits, gives f, ap (λ (v : Step). bit v.gives f) same)
 
   under_with : (d : ℕ) → Under (map (place_without g) ts) d → Under ts (d ∪ g)
   under_with d under i u is can =
-      let gives = under i (step_without g u) (without_at g ts i ∙ ap (place_without g) is) (λ f. omega (arith, bits, can f)) in
+      let gives = under i (step_without g u) (get_or-map (place_without g) ts i None ∙ ap (place_without g) is) (λ f. omega (arith, bits, can f)) in
       λ f. omega (arith, bits, gives f)
 
   -- what stands all along may be struck out afterwards
@@ -156,17 +136,17 @@ module _ (g : ℕ) (ts : List (Option Step)) where
   )
 
 -- what is struck out stands all along: the order is inside that closure, or the screen blocks it
-pub struck_screens_out : (p : Task) (x : ℕ) (b : Bool) → IsTrue b ↔ ((c : ℕ) × Closure p.steps (p.standing ∪ gone p x) c × (p.order ⊆ c))
+pub struck_screens_out : (p : Task) (x : ℕ) (b : Bool) → IsTrue b ↔ ((c : ℕ) × Closure p.steps (p.standing ∪ struck_facts p x) c × (p.order ⊆ c))
     → IsTrue (not b) ↔ ScreenedOut (strike p x)
 struck_screens_out p x true test =
     let (c, closure, sub) = test.0 refl in
     let q : Task = strike p x in
-    let struck = closure_without (gone p x) p.steps p.standing c closure in (
+    let struck = closure_without (struck_facts p x) p.steps p.standing c closure in (
       (λ h. cc),
-      λ (d, other, out). absurd (outside_closure q.steps q.standing q.order d other out (c ∖ gone p x, struck, λ f. omega (arith, bits, sub f))),
+      λ (d, other, out). absurd (outside_closure q.steps q.standing q.order d other out (c ∖ struck_facts p x, struck, λ f. omega (arith, bits, sub f))),
     )
 struck_screens_out p x false test =
-    let g : ℕ = gone p x in
+    let g : ℕ = struck_facts p x in
     let (c, closure) = closure_exists p.steps (p.standing ∪ g) in (
       (λ h. (
         c ∖ g,

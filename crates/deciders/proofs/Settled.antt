@@ -7,20 +7,20 @@ use Rattle.rules.proofs.Listing.{listing_stays, path_push}
 use Rattle.deciders.specs.declared.row.Row.{Row}
 use Rattle.deciders.specs.declared.struck.Action.{Action}
 use Rattle.deciders.specs.declared.listing.Unsettled.{Unsettled}
-use Rattle.deciders.specs.Rows.{row, entries, Sound, Climbs}
-use Rattle.deciders.specs.Struck.{actions_of, steps_of}
-use Rattle.deciders.specs.Searches.{no_action, ByAction, ByStep, Starts, Lists}
+use Rattle.deciders.specs.Search.Rows.{row, entries, Sound, Climbs}
+use Rattle.deciders.specs.Search.Struck.{actions_of, steps_of}
+use Rattle.deciders.specs.Search.Searches.{zero_action, ByAction, ByStep, Starts, Lists}
 use Rattle.deciders.proofs.Chains.{entries_length, entries_at}
-use Rattle.deciders.proofs.Actions.{listing_same, action_held}
+use Rattle.deciders.proofs.Actions.{listing_same, action_at_place}
 
 -- ---- from the actions to the steps
 
 by_step : (f : Successor) (ts : List (Option Step)) (r q : Row) → ByAction f (actions_of 0 ts) r q → ByStep f ts r q
 by_step f ts r q x =
-    let w : Action = get_or (actions_of 0 ts) x.number no_action in
-    (w.step, ap (λ (i : ℕ). get_or ts i None) (sym x.place) ∙ action_held ts x.number x.fits, x.makes)
+    let w : Action = get_or (actions_of 0 ts) x.number zero_action in
+    (w.step, ap (λ (i : ℕ). get_or ts i None) (sym x.place) ∙ action_at_place ts x.number x.fits, x.successor)
 
-module _ (f : Successor) (Wanted : ℕ → Type 0) (ts : List (Option Step)) (start m : ℕ) (sheet : List Row) (n : ℕ) where
+module _ (f : Successor) (Goal : ℕ → Type 0) (ts : List (Option Step)) (start m : ℕ) (sheet : List Row) (n : ℕ) where
   -- ---- a row's path, read from the row up
 
   climbed_path : Sound (ByAction f (actions_of 0 ts)) start sheet n → (l : List ℕ) (j : ℕ) → j < n → Climbs sheet j l 0 → Path f ts start (reverse l) (row sheet j).set
@@ -43,8 +43,8 @@ module _ (f : Successor) (Wanted : ℕ → Type 0) (ts : List (Option Step)) (st
         same i (omega (arith, entries_length sheet n low)) ∙ entries_at sheet n i low h,
       )
 
-  pub settles_none : Lists f Wanted (actions_of 0 ts) start m sheet n (Ok None)
-      → Settles f ts start Wanted m × Whole f ts start n × ((i : ℕ) → i < length (listing f ts start n) → Wanted (get_or (listing f ts start n) i 0) → ⊥)
+  pub settles_none : Lists f Goal (actions_of 0 ts) start m sheet n (Ok None)
+      → Settles f ts start Goal m × Whole f ts start n × ((i : ℕ) → i < length (listing f ts start n) → Goal (get_or (listing f ts start n) i 0) → ⊥)
   settles_none (size, low, same, away) =
       let e : entries sheet n ≡ listing f ts start n = same ∙ listing_same f ts start n in
       let fits : n ≤ length sheet = omega arith in
@@ -52,18 +52,18 @@ module _ (f : Successor) (Wanted : ℕ → Type 0) (ts : List (Option Step)) (st
       let w : Whole f ts start n = omega arith in (
         inl (omega (arith, ap length ((listing_stays f ts start n m low).2 w))),
         w,
-        λ i h y. away i (omega arith) (subst Wanted (ap (λ (v : List ℕ). get_or v i 0) (sym e) ∙ entries_at sheet n i fits (omega arith)) y),
+        λ i h y. away i (omega arith) (subst Goal (ap (λ (v : List ℕ). get_or v i 0) (sym e) ∙ entries_at sheet n i fits (omega arith)) y),
       )
 
-  pub settles_goal : (i : ℕ) → Lists f Wanted (actions_of 0 ts) start m sheet n (Ok (Some i)) → (l : List ℕ) → Climbs sheet i l 0
-      → Settles f ts start Wanted m × (i < m) × ((e : ℕ) × Path f ts start (reverse l) e × Wanted e)
+  pub settles_goal : (i : ℕ) → Lists f Goal (actions_of 0 ts) start m sheet n (Ok (Some i)) → (l : List ℕ) → Climbs sheet i l 0
+      → Settles f ts start Goal m × (i < m) × ((e : ℕ) × Path f ts start (reverse l) e × Goal e)
   settles_goal i (size, last, b, sound, is) l up =
       let (h, q) = begun sound.fits b i (omega arith) in
       let fits : i < m = omega (arith, sound.fits) in
-      (inr (i, fits, h, subst Wanted (sym q) is), fits, ((row sheet i).set, climbed_path sound l i (omega arith) up, is))
+      (inr (i, fits, h, subst Goal (sym q) is), fits, ((row sheet i).set, climbed_path sound l i (omega arith) up, is))
 
-  pub settles_not : (e : Unsettled) → Lists f Wanted (actions_of 0 ts) start m sheet n (Err e) → Settles f ts start Wanted m → ⊥
+  pub settles_not : (e : Unsettled) → Lists f Goal (actions_of 0 ts) start m sheet n (Err e) → Settles f ts start Goal m → ⊥
   settles_not e (size, last, away, b, more) (inl w) = omega (arith, ap length (listing_same f ts start m))
   settles_not e (size, last, away, b, more) (inr (i, h, k, is)) =
       let (_, q) = begun (omega arith) (subst (λ j. Starts (entries sheet j) (listing f (steps_of (actions_of 0 ts)) start m)) (sym last) b) i (omega arith) in
-      away i h (subst Wanted q is)
+      away i h (subst Goal q is)

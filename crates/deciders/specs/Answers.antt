@@ -8,12 +8,12 @@ use Rattle.deciders.specs.declared.answer.DeciderFault.{DeciderFault}
 use Rattle.deciders.specs.declared.answer.DeciderFault.TheVariants.{BeyondReach}
 
 -- a fault's number, its layer, and its values: the queried set and the decider's mark
-abbrev pub reported : DeciderFault → ℕ × ℕ × ℕ × ℕ
-reported (BeyondReach s k) = (21, 4, s, k)
+abbrev pub report_values : DeciderFault → ℕ × ℕ × ℕ × ℕ
+report_values (BeyondReach s k) = (21, 4, s, k)
 
 -- the test whether two faults report the same set and the same mark
 abbrev pub same_fault : DeciderFault → DeciderFault → Bool
-same_fault = eq_of_both (on (λ e. (reported e).2) ◌==◌) (on (λ e. (reported e).3) ◌==◌)
+same_fault = eq_of_both (on (λ e. (report_values e).2) ◌==◌) (on (λ e. (report_values e).3) ◌==◌)
 
 -- The answer to a query for the task p without x, with m rows, and what the plan book holds before
 -- and after. R says whether the query is in reach. Inside it, the answer is solvable with a plan,
@@ -23,4 +23,5 @@ abbrev pub Answers : Type 0 → ℕ → Task → ℕ → ℕ
 Answers R mark p x m book book' (Ok (verdict.Solvable k)) =
     R × (k < m) × Plan (strike p x) (take k book') × (drop k book' ≡ drop k book)
 Answers R mark p x m book book' (Ok verdict.Blocked) = R × Blocked p x × (book' ≡ book)
-Answers R mark p x m book book' (Err e) = (R → ⊥) × (reported e ≡ (21, 4, x, mark)) × (book' ≡ book)
+Answers R mark p x m book book' (Err e) =
+    ¬ R × (report_values e ≡ (21, 4, x, mark)) × (book' ≡ book)

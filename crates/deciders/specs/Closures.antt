@@ -8,12 +8,12 @@ abbrev pub Under : List (Option Step) → ℕ → Type 0
 Under ts c = (i : ℕ) (t : Step) → slice_index_or ts i None ≡ Some t → t.needs ⊆ c → t.gives ⊆ c
 
 -- c holds what stands, and with the needs of a step its gives
-abbrev pub Closed : List (Option Step) → ℕ → ℕ → Type 0
-Closed ts s c = (s ⊆ c) × Under ts c
+abbrev pub ClosedUnder : List (Option Step) → ℕ → ℕ → Type 0
+ClosedUnder ts s c = (s ⊆ c) × Under ts c
 
 -- the closure: the least such set
 abbrev pub Closure : List (Option Step) → ℕ → ℕ → Type 0
-Closure ts s c = Closed ts s c × ((d : ℕ) → Closed ts s d → c ⊆ d)
+Closure ts s c = ClosedUnder ts s c × ((d : ℕ) → ClosedUnder ts s d → c ⊆ d)
 
 -- One round of closing: r is c with the gives of those of the first n steps whose needs are in c,
 -- and with nothing but what has to be there.

@@ -1,5 +1,5 @@
 -- The size limits of a query, and the faults of what breaks them.
-use Rattle.std.specs.Prelude.{◌≡◌, ℕ, cond, ◌||◌, Ok, Err, Result, ◌==◌, nat_lt}
+use Rattle.std.specs.Prelude.{if◌then◌else◌, ◌≡◌, ℕ, ◌||◌, Ok, Err, Result, ◌==◌, nat_lt}
 use Rattle.rules.specs.declared.layer.Layer.{Layer}
 use Rattle.rules.specs.declared.layer.Layer.TheVariants.{Finder}
 use Rattle.deciders.specs.declared.limits.SizeFault.{SizeFault}
@@ -19,9 +19,9 @@ size_layer Book = Finder
 -- sheet or above 4096 places
 abbrev pub size_refusal : ℕ → ℕ → Result Unit SizeFault
 size_refusal m b =
-    cond (m == 0 || nat_lt 4096 m) (Err Sheet)
-    (cond (nat_lt b m || nat_lt 4096 b) (Err Book) (Ok tt))
+    if m == 0 || nat_lt 4096 m then Err Sheet
+    else (if nat_lt b m || nat_lt 4096 b then Err Book else Ok tt)
 
 -- a sheet of m rows and a plan book of b places keep the size limits
-abbrev pub Sized : ℕ → ℕ → Type 0
-Sized m b = size_refusal m b ≡ Ok tt
+abbrev pub WithinLimits : ℕ → ℕ → Type 0
+WithinLimits m b = size_refusal m b ≡ Ok tt

@@ -3,12 +3,13 @@
 ghost use Rattle.std.specs.Prelude.{◌≡◌};
 ghost use Rattle.rules.specs.declared.layer.Layer.TheVariants.{Decider as OfDecider};
 ghost use Rattle.rules.specs.Refusals.{layer_byte};
-ghost use Rattle.deciders.specs.Answers.{reported};
+ghost use Rattle.deciders.specs.Answers.{report_values};
 
 use rules::{Facts, Layer};
 
 /// The answer to a query inside the decider's reach.
-// Kept: both are answers that are proved, in the subject's words, and beside them stands `Err` for no answer; `None` would read as that
+// Both are answers that are proved, in the subject's words, and beside them stands `Err` for no
+// answer; `None` would read as that
 #[derive(Clone, Copy, PartialEq, Eq, Debug)]
 pub enum Verdict {
     /// There is a plan of this length, and the plan book holds it.
@@ -27,9 +28,9 @@ pub enum DeciderFault {
 impl DeciderFault {
     /// The fault's number in report lines.
     pub fn number(self) -> u8
-        ensures { result ≡ (reported self).0 }
+        ensures { result ≡ (report_values self).0 }
     {
-        // Kept: the byte of a report line; a case that holds values has no discriminant to cast.
+        // The byte of a report line; a case that holds values has no discriminant to cast.
         match self {
             DeciderFault::BeyondReach { .. } => 21,
         }
@@ -38,7 +39,7 @@ impl DeciderFault {
     /// The layer that the fault comes from.
     pub fn layer(self) -> Layer
         ensures is { result ≡ OfDecider }
-        ensures byte { layer_byte result ≡ (reported self).1 }
+        ensures byte { layer_byte result ≡ (report_values self).1 }
     {
         match self {
             DeciderFault::BeyondReach { .. } => Layer::Decider,

@@ -1,7 +1,7 @@
 //! The decider that goes backward, from the order on.
 
 ghost use Rattle.rules.specs.Sets.{◌⊆◌};
-ghost use Rattle.deciders.specs.Reaches.{backward as backwards, BackwardReach};
+ghost use Rattle.deciders.specs.Reaches.{regression, BackwardReach};
 ghost use Rattle.std.proofs.Common.{rules};
 
 use crate::answer::{DeciderFault, Verdict};
@@ -17,14 +17,14 @@ pub struct Backward {
     search: Search,
 }
 
-/// Regression: an entry is a set that is wanted, a step that gives a fact of it and takes none leads back to what it needs, and
-/// all of an entry is to stand.
+/// Regression: an entry is a subgoal, a step that gives a fact of it and takes none leads back to
+/// what it needs, and an entry that stands is a goal.
 impl Direction for Backward {
-    ghost makes = { backwards };
+    ghost successor_of = { regression };
 
     ghost start_of = { λ a. a.order };
 
-    ghost wants = { λ a w. w ⊆ a.standing };
+    ghost goal = { λ a w. w ⊆ a.standing };
 
     fn start(struck: &StruckOut) -> Facts {
         struck.order
@@ -38,7 +38,7 @@ impl Direction for Backward {
         }
     }
 
-    fn is_wanted(struck: &StruckOut, entry: Facts) -> bool {
+    fn is_goal(struck: &StruckOut, entry: Facts) -> bool {
         is_subset(entry, struck.standing)
     }
 }
@@ -59,7 +59,8 @@ impl Decider for Backward {
         sheet: &mut [Row],
         book: &mut [u8],
     ) -> Result<Verdict, DeciderFault> {
-        // the way is written from its end, a set that stands, and so it leads from there to the order
+        // the way is written from its end, a set that stands, and so it leads from there to the
+        // order
         self.search
             .answer::<Backward>(problem, strike, Self::MARK, sheet, book)
     }

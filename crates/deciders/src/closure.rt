@@ -21,8 +21,8 @@ fn round(places: &[Option<Step>], facts: Facts) -> Facts
     all
 }
 
-/// Whether the facts are in the closure of the standing under the steps at these places: round after round, until they are there
-/// or nothing is added.
+/// Whether the facts are in the closure of the standing under the steps at these places: round
+/// after round, until they are there or nothing is added.
 pub(crate) fn closure_has(places: &[Option<Step>], standing: Facts, facts: Facts) -> bool
     ensures { IsTrue result ↔ ((c : ℕ) × Closure places.now standing c × (facts ⊆ c)) }
 {

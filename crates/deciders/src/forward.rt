@@ -1,7 +1,7 @@
 //! The decider that goes forward, from the standing on.
 
 ghost use Rattle.rules.specs.Sets.{◌⊆◌};
-ghost use Rattle.rules.specs.Listing.{forward as forwards};
+ghost use Rattle.rules.specs.Listing.{progression};
 ghost use Rattle.deciders.specs.Reaches.{ForwardReach};
 ghost use Rattle.std.proofs.Common.{rules};
 
@@ -18,13 +18,14 @@ pub struct Forward {
     search: Search,
 }
 
-/// Progression: an entry is a standing, a step that can be done leads on to its result, and the order is to stand.
+/// Progression: an entry is a standing, a step that can be done leads on to its result, and a
+/// standing with the order is a goal.
 impl Direction for Forward {
-    ghost makes = { forwards };
+    ghost successor_of = { progression };
 
     ghost start_of = { λ a. a.standing };
 
-    ghost wants = { λ a s. a.order ⊆ s };
+    ghost goal = { λ a s. a.order ⊆ s };
 
     fn start(struck: &StruckOut) -> Facts {
         struck.standing
@@ -38,7 +39,7 @@ impl Direction for Forward {
         }
     }
 
-    fn is_wanted(struck: &StruckOut, entry: Facts) -> bool {
+    fn is_goal(struck: &StruckOut, entry: Facts) -> bool {
         is_subset(struck.order, entry)
     }
 }

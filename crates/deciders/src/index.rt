@@ -1,7 +1,7 @@
 //! An index over the rows of a sheet, so that it costs little to ask whether a set is listed.
 
 ghost use Rattle.std.specs.Prelude.{◌≡◌, ℕ, ◌+◌, ◌-◌, ◌^◌, ◌<◌, ◌≤◌, ◌↔◌, [], IsTrue, length, replicate, slice_index, slice_set};
-ghost use Rattle.deciders.specs.Chains.{hash_of, Indexed};
+ghost use Rattle.deciders.specs.Search.Chains.{hash_of, Indexed};
 
 use crate::limits::MAX_ROWS;
 use rules::Facts;
@@ -9,9 +9,10 @@ use rules::Facts;
 /// The most rows that a sheet may have, as a number that the index gives.
 const ROWS: u32 = MAX_ROWS as u32;
 
-/// For each hash a chain of the rows whose sets have it, the newest first. The row r has the number `start + r`, and what is
-/// below `start`, as all that an earlier listing has left, stands for no row.
-// Kept: fixed memory with no heap, a rule of the project; options for links would have to be cleared
+/// For each hash a chain of the rows whose sets have it, the newest first. The row r has the number
+/// `start + r`, and what is below `start`, as all that an earlier listing has left, stands for no
+/// row.
+// Fixed memory with no heap, a rule of the project; options for links would have to be cleared
 #[derive(Drop)]
 pub(crate) struct Index {
     heads: [u32; MAX_ROWS],
@@ -37,7 +38,7 @@ impl Default for Index {
 }
 
 /// The top 12 bits of the product with the golden ratio, which spread well.
-#[tactic(auto, unfolding(crate::specs::Chains::hash_of))]
+#[tactic(auto, unfolding(crate::specs::Search::Chains::hash_of))]
 fn hash(set: Facts) -> usize
     ensures is { result ≡ hash_of set }
     ensures fits { result < 4096 }
@@ -46,7 +47,8 @@ fn hash(set: Facts) -> usize
 }
 
 impl Index {
-    /// Forgets all rows. Nothing is cleared until no numbers are left, after a million listings. Which number the next row gets is free.
+    /// Forgets all rows. Nothing is cleared until no numbers are left, after a million listings.
+    /// Which number the next row gets is free.
     pub(crate) fn clear(&mut self)
         ensures { Indexed self.new.start self.new.heads self.new.links [] }
     {
@@ -58,7 +60,8 @@ impl Index {
     }
 
     /// Whether a row has this number.
-    // Kept: a test, and below a difference, since an option of the row costs each turn of the loop over a chain.
+    // A test, and below a difference, since an option of the row costs each turn of the loop over a
+    // chain.
     pub(crate) fn is_row(&self, number: u32) -> bool
         ensures { IsTrue result ↔ (self.now.start ≤ number) }
     {

@@ -41,7 +41,8 @@ impl SizeFault {
     }
 }
 
-/// Whether a sheet of so many rows and a plan book of so many places keep the limits, and if not, which of the two.
+/// Whether a sheet of so many rows and a plan book of so many places keep the limits, and if not,
+/// which of the two.
 pub fn check_sizes(rows: usize, places: usize) -> Result<(), SizeFault>
     ensures { result ≡ size_refusal rows places }
 {

@@ -2,20 +2,22 @@
 
 ghost use Rattle.std.specs.Prelude.{◌≡◌, ℕ, ◌+◌, ◌<◌, ◌≤◌, [], length, take, drop, IfSome, IfNone, IfOk, OnErr, slice_set};
 ghost use Rattle.std.proofs.Props.{props};
-ghost use Rattle.rules.specs.Listing.{listed};
-ghost use Rattle.deciders.specs.Rows.{row as row_of, entries, Climbs};
-ghost use Rattle.deciders.specs.Chains.{Indexed};
+ghost use Rattle.rules.specs.Listing.{is_listed};
+ghost use Rattle.deciders.specs.Search.Rows.{row as row_of, entries, Climbs};
+ghost use Rattle.deciders.specs.Search.Chains.{Indexed};
 
 use crate::index::Index;
 use crate::row::Row;
 use rules::Facts;
 
-/// Why a search has no answer: its sheet or its book breaks the limits, or an entry found no free row.
+/// Why a search has no answer: its sheet or its book breaks the limits, or an entry found no free
+/// row.
 #[derive(Clone, Copy, Debug)]
 pub(crate) struct Unsettled;
 
-/// The entries on the first rows of a sheet, with an index over them, so that it costs little to ask whether a set is listed.
-// Kept: rows and how many are filled, since the sheet is a slice of the caller's, a rule of the project.
+/// The entries on the first rows of a sheet, with an index over them, so that it costs little to
+/// ask whether a set is listed.
+// Rows and how many are filled, since the sheet is a slice of the caller's, a rule of the project.
 #[derive(Drop)]
 pub(crate) struct Listing<'a> {
     rows: &'a mut [Row],
@@ -54,13 +56,13 @@ impl<'a> Listing<'a> {
     }
 
     /// Whether the set is listed.
-    pub(crate) fn has(&self, wanted: Facts) -> bool
-        ensures { result ≡ listed wanted (entries self.now.rows.now self.now.count) }
+    pub(crate) fn has(&self, entry: Facts) -> bool
+        ensures { result ≡ is_listed entry (entries self.now.rows.now self.now.count) }
     {
-        let mut number = self.index.first(wanted);
+        let mut number = self.index.first(entry);
         while self.index.is_row(number) {
             let row = self.index.row(number);
-            if self.rows[row].set == wanted {
+            if self.rows[row].set == entry {
                 return true;
             }
             number = self.index.next(row);
@@ -87,7 +89,8 @@ impl<'a> Listing<'a> {
         Ok(n)
     }
 
-    /// Writes the places from the row `from` up to the first row to the front of the book, and says how many there are.
+    /// Writes the places from the row `from` up to the first row to the front of the book, and says
+    /// how many there are.
     pub(crate) fn climb(&self, from: usize, book: &mut [u8]) -> usize
         requires fits { (from < self.now.count) × (from < length book.old) }
         requires back { (i : ℕ) → 0 < i → i ≤ from → (row_of self.now.rows.now i).parent < i }

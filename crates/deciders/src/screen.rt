@@ -1,7 +1,7 @@
 //! The screen, over any decider.
 
 ghost use Rattle.std.specs.Prelude.{◌≡◌, ◌↔◌, IsTrue};
-ghost use Rattle.rules.specs.Planning.{task, strike as strike_out};
+ghost use Rattle.rules.specs.Planning.{strike as strike_out};
 ghost use Rattle.deciders.specs.Reaches.{ScreenedOut, ScreenReach};
 ghost use Rattle.std.proofs.Common.{rules};
 
@@ -12,18 +12,20 @@ use crate::limits::check_sizes;
 use crate::row::Row;
 use rules::{Facts, Problem};
 
-/// Whether the order cannot stand even if no step takes anything, with the facts of `strike` struck out.
+/// Whether the order cannot stand even if no step takes anything, with the facts of `strike` struck
+/// out.
 ///
 /// No step is struck out for it: what is gone stands all along, so that no step waits for it.
 fn is_screened_out(problem: &Problem, strike: Facts) -> bool
-    ensures { IsTrue result ↔ ScreenedOut (strike_out (task problem.now) strike) }
+    ensures { IsTrue result ↔ ScreenedOut (strike_out problem.now strike) }
 {
     let gone = strike | problem.waived;
     let all = problem.standing.facts | gone;
     !closure_has(problem.table.places(), all, problem.order)
 }
 
-/// Blocks what is blocked even if no step takes anything, and asks the decider below it for the rest.
+/// Blocks what is blocked even if no step takes anything, and asks the decider below it for the
+/// rest.
 #[derive(Default, Drop)]
 pub struct Screen<D> {
     pub below: D,

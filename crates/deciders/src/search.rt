@@ -1,12 +1,12 @@
-//! A search: it lists entries on a sheet, expands each entry in turn, and stops at one that is wanted.
+//! A search: it lists entries on a sheet, expands each entry in turn, and stops at a goal.
 
-ghost use Rattle.std.specs.Prelude.{◌≡◌, ℕ, ◌<◌, T, length};
-ghost use Rattle.rules.specs.Planning.{task, strike as strike_out};
+ghost use Rattle.std.specs.Prelude.{◌≡◌, ◌↔◌, ℕ, ◌<◌, IsTrue, length, IfOk};
+ghost use Rattle.rules.specs.Planning.{strike as strike_out, Consistent};
 ghost use Rattle.rules.specs.Listing.{Successor};
 ghost use Rattle.deciders.specs.declared.struck.StruckOut.{StruckOut as Struck};
-ghost use Rattle.deciders.specs.Rows.{row as row_of, entries, Sound};
-ghost use Rattle.deciders.specs.Struck.{struck_out};
-ghost use Rattle.deciders.specs.Searches.{ByAction, Away, Expands, Lists, Finds};
+ghost use Rattle.deciders.specs.Search.Rows.{row as row_of, entries, Sound};
+ghost use Rattle.deciders.specs.Search.Struck.{remainder};
+ghost use Rattle.deciders.specs.Search.Searches.{ByAction, NoGoal, Expands, Lists, SearchAnswers};
 
 use crate::answer::{DeciderFault, Verdict};
 use crate::index::Index;
@@ -16,16 +16,17 @@ use crate::row::Row;
 use crate::struck::StruckOut;
 use rules::{Facts, Problem, Step};
 
-/// A direction of search: where it starts, what a step makes of an entry, and which entries are wanted.
+/// A direction of search: where it starts, what a step makes of an entry, and which entries are
+/// goals.
 pub(crate) trait Direction {
     // what a step makes of an entry
-    ghost makes: { Successor };
+    ghost successor_of: { Successor };
 
     // the entry to start from
     ghost start_of: { Struck → ℕ };
 
-    // the entry is wanted
-    ghost wants: { Struck → ℕ → Type 0 };
+    // the entry is a goal
+    ghost goal: { Struck → ℕ → Type 0 };
 
     /// The entry to start from.
     fn start(struck: &StruckOut) -> Facts
@@ -33,16 +34,16 @@ pub(crate) trait Direction {
 
     /// What a step makes of an entry, if anything.
     fn successor(step: &Step, entry: Facts) -> Option<Facts>
-        ensures { result ≡ makes step.now entry };
+        ensures { result ≡ successor_of step.now entry };
 
     /// Whether the search may end with this entry.
-    fn is_wanted(struck: &StruckOut, entry: Facts) -> bool
-        ensures holds { T result → wants struck.now entry }
-        ensures fails { wants struck.now entry → T result };
+    fn is_goal(struck: &StruckOut, entry: Facts) -> bool
+        ensures { IsTrue result ↔ goal struck.now entry };
 }
 
 impl<'a> Listing<'a> {
-    /// Lists what the actions make of the entry `at`, and says which of the new rows is wanted, if one is.
+    /// Lists what the actions make of the entry `at`, and says which of the new rows is a goal, if
+    /// one is.
     fn expand<D: Direction>(
         &mut self,
         struck: &StruckOut,
@@ -50,10 +51,10 @@ impl<'a> Listing<'a> {
         entry: Facts,
     ) -> Result<Option<usize>, Unsettled>
         requires here { (at < self.old.count) × ((row_of self.old.rows.now at).set ≡ entry) }
-        requires sound { Sound (ByAction D.makes struck.now.actions.items)
+        requires sound { Sound (ByAction D.successor_of struck.now.actions.items)
             (row_of self.old.rows.now 0).set self.old.rows.now self.old.count }
-        requires away { Away (D.wants struck.now) self.old.rows.now self.old.count }
-        ensures expands { Expands D.makes (D.wants struck.now) struck.now.actions.items
+        requires no_goal { NoGoal (D.goal struck.now) self.old.rows.now self.old.count }
+        ensures expands { Expands D.successor_of (D.goal struck.now) struck.now.actions.items
             (row_of self.old.rows.now 0).set entry (entries self.old.rows.now self.old.count)
             (length self.old.rows.now) self.new.rows.now self.new.count result }
         ensures loan { self.new.index.ghost_name ≡ self.old.index.ghost_name }
@@ -66,7 +67,7 @@ impl<'a> Listing<'a> {
                         parent: at as u16,
                         place: action.place,
                     })?;
-                    if D::is_wanted(struck, made) {
+                    if D::is_goal(struck, made) {
                         return Ok(Some(row));
                     }
                 }
@@ -75,11 +76,11 @@ impl<'a> Listing<'a> {
         Ok(None)
     }
 
-    /// Lists entries until one is wanted, and says its row, or none is left to expand.
+    /// Lists entries until one is a goal, and says its row, or none is left to expand.
     fn list<D: Direction>(&mut self, struck: &StruckOut) -> Result<Option<usize>, Unsettled>
         requires none { self.old.count ≡ 0 }
         requires some { 0 < length self.old.rows.now }
-        ensures lists { Lists D.makes (D.wants struck.now) struck.now.actions.items
+        ensures lists { Lists D.successor_of (D.goal struck.now) struck.now.actions.items
             (D.start_of struck.now) (length self.old.rows.now)
             self.new.rows.now self.new.count result }
         ensures loan { self.new.index.ghost_name ≡ self.old.index.ghost_name }
@@ -89,7 +90,7 @@ impl<'a> Listing<'a> {
             set: start,
             ..Row::default()
         })?;
-        if D::is_wanted(struck, start) {
+        if D::is_goal(struck, start) {
             return Ok(Some(0));
         }
         for at in 0..MAX_ROWS {
@@ -112,8 +113,8 @@ pub(crate) struct Search {
 }
 
 impl Search {
-    /// Answers by a search for a way from the start of a direction to an entry that is wanted, with the facts of `strike`
-    /// struck out. Writes the places of the way, the last first, to the front of the book.
+    /// Answers by a search for a way from the start of a direction to a goal, with the facts of
+    /// `strike` struck out. Writes the places of the way, the last first, to the front of the book.
     pub(crate) fn answer<D: Direction>(
         &mut self,
         problem: &Problem,
@@ -122,9 +123,10 @@ impl Search {
         sheet: &mut [Row],
         book: &mut [u8],
     ) -> Result<Verdict, DeciderFault>
-        ensures { let p = task problem.now in let q = struck_out p strike in
-            Finds D.makes (D.wants q) (strike_out p strike).steps (D.start_of q)
-            strike mark (length sheet.old) book.old book.new result }
+        ensures answers { let q = remainder problem.now strike in
+            SearchAnswers D.successor_of (D.goal q) (strike_out problem.now strike).steps
+            (D.start_of q) strike mark (length sheet.old) book.old book.new result }
+        ensures consistent { IfOk result (λ _. Consistent problem.now) }
     {
         let fault = DeciderFault::BeyondReach { set: strike, mark };
         if check_sizes(sheet.len(), book.len()).is_err() {

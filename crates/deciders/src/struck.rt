@@ -1,8 +1,8 @@
 //! A problem once facts are struck out.
 
 ghost use Rattle.std.specs.Prelude.{◌≡◌};
-ghost use Rattle.rules.specs.Planning.{task};
-ghost use Rattle.deciders.specs.Struck.{struck_out};
+ghost use Rattle.rules.specs.Planning.{Consistent};
+ghost use Rattle.deciders.specs.Search.Struck.{remainder};
 
 use arrayvec::ArrayVec;
 use rules::{Facts, Problem, Step, difference};
@@ -14,7 +14,8 @@ pub(crate) struct Action {
     pub place: u8,
 }
 
-/// What is left of a problem once facts are struck out: what stands, what is ordered, and the steps, by rising place.
+/// What is left of a problem once facts are struck out: what stands, what is ordered, and the
+/// steps, by rising place.
 #[derive(Default, Drop)]
 pub(crate) struct StruckOut {
     pub standing: Facts,
@@ -24,16 +25,18 @@ pub(crate) struct StruckOut {
 
 impl StruckOut {
     /// Becomes the problem without the facts of `strike` and the waived ones.
-    // Kept: filled in its place, in the memory of a search; making it anew and moving it took 14 ns a query.
+    // Filled in its place, in the memory of a search; making it anew and moving it took 14 ns a
+    // query.
     pub(crate) fn fill(&mut self, problem: &Problem, strike: Facts)
-        ensures { self.new ≡ struck_out (task problem.now) strike }
+        ensures struck { self.new ≡ remainder problem.now strike }
+        ensures consistent { Consistent problem.now }
     {
         let gone = strike | problem.waived;
         self.standing = difference(problem.standing.facts, gone);
         self.order = difference(problem.order, gone);
         self.actions.clear();
-        for (place, held) in problem.table.places().iter().enumerate() {
-            if let Some(step) = held {
+        for (place, content) in problem.table.places().iter().enumerate() {
+            if let Some(step) = content {
                 self.actions.push(Action {
                     step: step.without(gone),
                     place: place as u8,

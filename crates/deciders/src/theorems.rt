@@ -3,7 +3,7 @@
 ghost use Rattle.std.specs.Prelude.{◌≡◌, Decides};
 ghost use Rattle.deciders.specs.declared.answer.DeciderFault.{DeciderFault as Fault};
 ghost use Rattle.deciders.specs.Answers.{same_fault};
-ghost use Rattle.deciders.specs.Theorems.{WantedLeads, LeadsWanted, WantedBlocked};
+ghost use Rattle.deciders.specs.Theorems.{SubgoalLeads, LeadsToSubgoal, SubgoalsBlocked};
 ghost use Rattle.deciders.specs.Theorems.{ClosureExists, ClosureUnique, ScreenedBlocked};
 ghost use Rattle.deciders.specs.Theorems.{BackwardExample};
 
@@ -17,9 +17,9 @@ pub fn faults_are_equal_by_set_and_mark()
 
 /// The backward listing finds exactly from where the order can be reached.
 pub fn backward_finds_what_leads_to_the_order()
-    ensures leads { WantedLeads }
-    ensures found { LeadsWanted }
-    ensures blocked { WantedBlocked }
+    ensures leads { SubgoalLeads }
+    ensures complete { LeadsToSubgoal }
+    ensures blocked { SubgoalsBlocked }
     ensures example { BackwardExample }
 {}
 

@@ -1,8 +1,9 @@
-//! The waiver finder: reads a case file from standard input and writes one report line for each of its lines.
+//! The waiver finder: reads a case file from standard input and writes one report line for each of
+//! its lines.
 
 #![tactic(auto)]
 
-use desk::serve_input;
+use console::serve_input;
 
 fn main(rt: HostRuntime) -> anyhow::Result<()> {
     serve_input(&rt)

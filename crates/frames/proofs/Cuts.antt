@@ -1,16 +1,17 @@
 -- A text is cut into lines in one way.
-use Rattle.std.proofs.Common.{◌≡◌, ℕ, suc, List, [], ◌∷◌, ◌++◌, length, get_or, drop, sym, refl, ap, ◌∙◌, inl, inr, arith}
+use Rattle.std.proofs.Common.{◌≡◌, ◌≢◌, ℕ, List, [], ◌∷◌, ◌++◌, length, get_or, drop, sym, refl, ap, ◌∙◌, inl, inr, arith}
 use Rattle.std.proofs.lemmas.List.{length-append, get_or_at}
+use Rattle.std.proofs.lemmas.List.Elements.{All-tail}
 use Rattle.frames.specs.Texts.{Unbroken, LineAt}
 
 unbroken_rest : (x : ℕ) (xs : List ℕ) → Unbroken (x ∷ xs) → Unbroken xs
-unbroken_rest x xs free k h = free (suc k) (omega arith)
+unbroken_rest = All-tail (λ c. c ≢ 10)
 
 -- a list has one part before its first line feed
 one_front : (xs ys r s : List ℕ) → Unbroken xs → Unbroken ys → xs ++ 10 ∷ r ≡ ys ++ 10 ∷ s → xs ≡ ys
 one_front [] [] r s p q e = refl
-one_front [] (y ∷ ys) r s p q e = absurd (q 0 (omega arith) (let same : y ≡ 10 = cc in same))
-one_front (x ∷ xs) [] r s p q e = absurd (p 0 (omega arith) (let same : x ≡ 10 = cc in same))
+one_front [] (y ∷ ys) r s p q e = absurd (q 0 0 (omega arith) (let same : y ≡ 10 = cc in same))
+one_front (x ∷ xs) [] r s p q e = absurd (p 0 0 (omega arith) (let same : x ≡ 10 = cc in same))
 one_front (x ∷ xs) (y ∷ ys) r s p q e =
     let heads : x ≡ y = cc in
     let tails = one_front xs ys r s (unbroken_rest x xs p) (unbroken_rest y ys q) (cc) in
@@ -20,7 +21,7 @@ one_front (x ∷ xs) (y ∷ ys) r s p q e =
 no_front : (xs ys r : List ℕ) → Unbroken ys → xs ++ 10 ∷ r ≡ ys → ⊥
 no_front xs ys r q e =
     let longer = ap length e in
-    q (length xs) (omega (arith, longer, length-append xs (10 ∷ r)))
+    q (length xs) 0 (omega (arith, longer, length-append xs (10 ∷ r)))
     (ap (λ (zs : List ℕ). get_or zs (length xs) 0) (sym e) ∙ get_or_at xs 10 r 0 (length xs) refl)
 
 pub one_cut

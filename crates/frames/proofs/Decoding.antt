@@ -5,7 +5,7 @@ use Rattle.std.proofs.lemmas.List.{length_push, get_or_push, get_or_append_left,
 use Rattle.frames.specs.declared.frame.Frame.{Frame}
 use Rattle.frames.specs.declared.frame.FrameFault.{FrameFault}
 use Rattle.frames.specs.declared.frame.FrameFault.TheVariants.{Malformed, UnknownKind, WrongLength}
-use Rattle.frames.specs.Digits.{Pair, Spells}
+use Rattle.frames.specs.Digits.{PairAt, Spells}
 use Rattle.frames.specs.Frames.{Means, Reads}
 use Rattle.frames.proofs.Spelling.{spells_unique}
 use Rattle.frames.proofs.Lengths.{length_bytes}
@@ -34,13 +34,13 @@ pair_at line pairs n i same inside =
 -- the first n pairs of a line are these bytes, and the first of the bytes are held
 pub record DecodedFirst (line : List ℕ) (n : ℕ) (bytes held : List ℕ) : Type 0 where
   pub long : length bytes ≡ n
-  pub pairs : (k : ℕ) → k < n → Pair (get_or line (2 * k) 0) (get_or line (2 * k + 1) 0) (get_or bytes k 0)
+  pub pairs : (k : ℕ) → k < n → PairAt line k (get_or bytes k 0)
   pub first : held ≡ take 15 bytes
 
-module _ (line bytes held : List ℕ) (n byte : ℕ) (d : DecodedFirst line n bytes held) (pair : Pair (get_or line (2 * n) 0) (get_or line (2 * n + 1) 0) byte) where
-  pairs_more : (k : ℕ) → k < n + 1 → Pair (get_or line (2 * k) 0) (get_or line (2 * k + 1) 0) (get_or (bytes ++ byte ∷ []) k 0)
+module _ (line bytes held : List ℕ) (n byte : ℕ) (d : DecodedFirst line n bytes held) (pair : PairAt line n byte) where
+  pairs_more : (k : ℕ) → k < n + 1 → PairAt line k (get_or (bytes ++ byte ∷ []) k 0)
   pairs_more =
-      below_more (λ (k : ℕ). Pair (get_or line (2 * k) 0) (get_or line (2 * k + 1) 0) (get_or (bytes ++ byte ∷ []) k 0)) n
+      below_more (λ (k : ℕ). PairAt line k (get_or (bytes ++ byte ∷ []) k 0)) n
       (λ k h. let inside : k < length bytes = omega (arith, d.long) in rw (get_or_append_left bytes (byte ∷ []) 0 k inside) (d.pairs k h))
       (rw (get_or_push bytes byte 0 n d.long) pair)
 

@@ -3,7 +3,7 @@ use Rattle.std.proofs.Common.{◌≡◌, ℕ, ◌+◌, ◌*◌, ◌/◌, ◌%◌
 use Rattle.std.proofs.lemmas.List.{ext_get_or, length-take-le}
 use Rattle.std.proofs.lemmas.List.Concat.{get_or-flat_map}
 use Rattle.std.proofs.lemmas.Bool.Decides.{nat_tests}
-use Rattle.frames.specs.Digits.{digit_of, Pair, Spells, Bytes, capital, capitals, written}
+use Rattle.frames.specs.Digits.{digit_of, Pair, Spells, Bytes, capital, capitals, digits_of}
 
 -- the written digit of a value is worth that value
 pub digit_of_capital : (v : ℕ) → v < 16 → digit_of (capital v) ≡ Some v
@@ -31,24 +31,24 @@ spells_unique line bs cs (m, p) (n, q) =
     ext_get_or 0 bs cs (omega arith)
     (λ i h. pair_unique (get_or line (2 * i) 0) (get_or line (2 * i + 1) 0) (get_or bs i 0) (get_or cs i 0) (p i h) (q i (omega arith)))
 
-pub length_written : (bytes : List ℕ) → length (written bytes) ≡ 2 * length bytes
-length_written [] = refl
-length_written (b ∷ bs) = omega (arith, length_written bs)
+pub length_digits : (bytes : List ℕ) → length (digits_of bytes) ≡ 2 * length bytes
+length_digits [] = refl
+length_digits (b ∷ bs) = omega (arith, length_digits bs)
 
 -- the digits of the byte at i stand at twice i, and after it
-written_at
+digits_at
     : (bytes : List ℕ) (i j k : ℕ) → k ≡ 2 * i + j → i < length bytes → j < 2
-    → get_or (written bytes) k 0 ≡ get_or (capitals (get_or bytes i 0)) j 0
-written_at bytes i j k at inside small =
-    let before : k ≡ length (written (take i bytes)) + j = omega (arith, length_written (take i bytes), length-take-le i bytes (omega arith)) in
-    ap (λ (n : ℕ). get_or (written bytes) n 0) before ∙ get_or-flat_map capitals bytes i j 0 0 inside small
+    → get_or (digits_of bytes) k 0 ≡ get_or (capitals (get_or bytes i 0)) j 0
+digits_at bytes i j k at inside small =
+    let before : k ≡ length (digits_of (take i bytes)) + j = omega (arith, length_digits (take i bytes), length-take-le i bytes (omega arith)) in
+    ap (λ (n : ℕ). get_or (digits_of bytes) n 0) before ∙ get_or-flat_map capitals bytes i j 0 0 inside small
 
 -- the written digits of a list of bytes spell it
-pub spells_written : (bytes : List ℕ) → Bytes bytes → Spells (written bytes) bytes
-spells_written bytes small = (
-  length_written bytes,
+pub spells_digits : (bytes : List ℕ) → Bytes bytes → Spells (digits_of bytes) bytes
+spells_digits bytes small = (
+  length_digits bytes,
   λ i h.
-      let high = written_at bytes i 0 (2 * i) (omega arith) h (omega arith) in
-      let low = written_at bytes i 1 (2 * i + 1) (omega arith) h (omega arith) in
-      rw (high, low) (pair_of_capitals (get_or bytes i 0) (small i h)),
+      let high = digits_at bytes i 0 (2 * i) (omega arith) h (omega arith) in
+      let low = digits_at bytes i 1 (2 * i + 1) (omega arith) h (omega arith) in
+      rw (high, low) (pair_of_capitals (get_or bytes i 0) (small i 0 h)),
 )

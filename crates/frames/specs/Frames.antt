@@ -30,8 +30,10 @@ kind_of f = kind_byte (frame_kind f)
 
 -- the bytes that follow the kind
 abbrev pub field_bytes : Frame → List ℕ
-field_bytes (frames.Open number n standing order) = word_bytes number ++ (n ∷ (word_bytes standing ++ word_bytes order))
-field_bytes (frames.Put place needs gives takes) = place ∷ (word_bytes needs ++ (word_bytes gives ++ word_bytes takes))
+field_bytes (frames.Open number n standing order) =
+    word_bytes number ++ (n ∷ (word_bytes standing ++ word_bytes order))
+field_bytes (frames.Put place needs gives takes) =
+    place ∷ (word_bytes needs ++ (word_bytes gives ++ word_bytes takes))
 field_bytes (frames.Grant facts) = word_bytes facts
 field_bytes (frames.Lapse facts) = word_bytes facts
 field_bytes (frames.Order facts) = word_bytes facts
@@ -61,22 +63,30 @@ fault_kind (WrongLength kind) = kind
 abbrev pub NoneOfLength : ℕ → ℕ → Type 0
 NoneOfLength kind size = (f : Frame) → kind_of f ≡ kind → length (bytes_of f) ≢ size
 
--- what bytes say: a frame's bytes say that frame, and no bytes are malformed; else the first byte is no frame's kind,
--- or it is one, and the bytes are as many as no frame of that kind has
+-- the first of the bytes
+abbrev pub BeginsWith : ℕ → List ℕ → Type 0
+BeginsWith byte bytes = (rest : List ℕ) × (byte ∷ rest ≡ bytes)
+
+-- what bytes say: a frame's bytes say that frame, and no bytes are malformed; else the first byte
+-- is no frame's kind, or it is one, and the bytes are as many as no frame of that kind has
 abbrev pub Means : List ℕ → Result Frame FrameFault → Type 0
 Means bytes (Ok f) = bytes_of f ≡ bytes
 Means bytes (Err Malformed) = bytes ≡ []
-Means bytes (Err (UnknownKind kind)) =
-    ((rest : List ℕ) × (kind ∷ rest ≡ bytes)) × ((f : Frame) → kind_of f ≢ kind)
+Means bytes (Err (UnknownKind kind)) = BeginsWith kind bytes × ((f : Frame) → kind_of f ≢ kind)
 Means bytes (Err (WrongLength kind)) =
-    ((rest : List ℕ) × (kind ∷ rest ≡ bytes)) × ((f : Frame) × (kind_of f ≡ kind)) × NoneOfLength kind (length bytes)
+    BeginsWith kind bytes × ((f : Frame) × (kind_of f ≡ kind)) × NoneOfLength kind (length bytes)
 
--- what a line says: what the bytes say that it spells; it is malformed where it spells no byte at all
+-- a line spells bytes that say this
+abbrev pub SpellsMeaning : List ℕ → Result Frame FrameFault → Type 0
+SpellsMeaning line r = (bytes : List ℕ) × Spells line bytes × Means bytes r
+
+-- what a line says: what the bytes say that it spells; it is malformed where it spells no byte at
+-- all
 abbrev pub Reads : List ℕ → Result Frame FrameFault → Type 0
 Reads line (Ok f) = Spells line (bytes_of f)
 Reads line (Err Malformed) = (bytes : List ℕ) → Spells line bytes → bytes ≡ []
-Reads line (Err (UnknownKind kind)) = (bytes : List ℕ) × Spells line bytes × Means bytes (Err (UnknownKind kind))
-Reads line (Err (WrongLength kind)) = (bytes : List ℕ) × Spells line bytes × Means bytes (Err (WrongLength kind))
+Reads line (Err (UnknownKind kind)) = SpellsMeaning line (Err (UnknownKind kind))
+Reads line (Err (WrongLength kind)) = SpellsMeaning line (Err (WrongLength kind))
 
 -- the first bytes that a line spells, as many as there is room for
 abbrev pub Decoded : List ℕ → List ℕ → Type 0

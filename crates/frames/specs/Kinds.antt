@@ -19,4 +19,6 @@ kind_byte kinds.DrawAndSign = 10
 
 -- the result is the kind that a byte stands for, or the byte itself where it stands for no kind
 abbrev pub Decodes : ℕ → Result Kind UnknownKind → Type 0
-Decodes byte r = MatchResult r (λ kind. kind_byte kind ≡ byte) (λ e. (e.0 ≡ byte) × ((kind : Kind) → kind_byte kind ≢ byte))
+Decodes byte r =
+    MatchResult r (λ kind. kind_byte kind ≡ byte)
+    (λ e. (e.0 ≡ byte) × ((kind : Kind) → kind_byte kind ≢ byte))

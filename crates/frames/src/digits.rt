@@ -7,7 +7,7 @@ ghost use Rattle.frames.specs.Digits.{digit_of, capital, capitals};
 pub fn digit(character: u8) -> Option<u8>
     ensures { result ≡ digit_of character }
 {
-    // Kept: a rule of the project, a match of the character over ranges.
+    // A match of the character over ranges is a rule of the project.
     match char::from(character) {
         '0'..='9' => Some(character - b'0'),
         'a'..='f' => Some(character - b'a' + 10),
@@ -32,6 +32,6 @@ fn capital_digit(value: u8) -> u8
 pub fn hex_pair(byte: u8) -> [u8; 2]
     ensures { result ≡ capitals byte }
 {
-    // Kept: the kit's hex writes capitals to the heap alone, and std does not state the digits of {:02X}.
+    // The kit's hex writes capitals to the heap alone, and std does not state the digits of {:02X}.
     [capital_digit(byte / 16), capital_digit(byte % 16)]
 }

@@ -1,9 +1,10 @@
 //! Frames: what one line of a case file says, and why a line may say nothing.
 
-ghost use Rattle.std.specs.Prelude.{◌≡◌, ℕ, ◌<◌, false, T, ◌≢◌, List, [], ◌∷◌, length, MatchOption};
+ghost use Rattle.std.specs.Prelude.{◌≡◌, ℕ, ◌≢◌, List, [], ◌∷◌, length, MatchOption};
 ghost use Rattle.frames.specs.declared.frame.FrameFault.TheVariants.{UnknownKind as OfUnknownKind};
 ghost use Rattle.frames.specs.Digits.{Pair, Spells};
-ghost use Rattle.frames.specs.Frames.{frame_kind, bytes_of, fault_kind, fault_number, NoneOfLength, Means, Reads, Decoded};
+ghost use Rattle.frames.specs.Frames.{frame_kind, bytes_of, fault_kind, fault_number};
+ghost use Rattle.frames.specs.Frames.{NoneOfLength, Means, Reads, Decoded};
 ghost use Rattle.frames.specs.Kinds.{kind_byte};
 ghost use Rattle.frames.specs.Numbers.{word_bytes};
 
@@ -73,7 +74,8 @@ impl FrameFault {
     pub fn kind(&self) -> u8
         ensures { result ≡ fault_kind self.now }
     {
-        // Kept: a byte, since an unknown kind is reported by the byte that was read, and Kind would ask more of who makes a fault.
+        // A byte, since an unknown kind is reported by the byte that was read, and Kind would ask
+        // more of who makes a fault.
         match self {
             FrameFault::Malformed => 0,
             FrameFault::UnknownKind(byte) | FrameFault::WrongLength(byte) => *byte,
@@ -84,7 +86,7 @@ impl FrameFault {
     pub fn number(&self) -> u8
         ensures { result ≡ fault_number self.now }
     {
-        // Kept: a variant that holds a value has no discriminant to cast.
+        // A variant that holds a value has no discriminant to cast.
         match self {
             FrameFault::Malformed => 1,
             FrameFault::UnknownKind(_) => 2,
@@ -160,7 +162,8 @@ fn put(rest: &[u8]) -> Option<Frame>
 /// The frame of this kind with these bytes for its fields.
 fn frame_of_kind(kind: Kind, rest: &[u8]) -> Option<Frame>
     ensures { let bytes = kind_byte kind ∷ rest.now in
-        MatchOption result (NoneOfLength (kind_byte kind) (length bytes)) (λ f. bytes_of f ≡ bytes) }
+        MatchOption result (NoneOfLength (kind_byte kind) (length bytes))
+        (λ f. bytes_of f ≡ bytes) }
 {
     match kind {
         Kind::Open => open(rest),
@@ -189,17 +192,19 @@ fn frame_of(bytes: &[u8]) -> Result<Frame, FrameFault>
 
 /// The byte that two digits stand for.
 fn pair(high: u8, low: u8) -> Option<u8>
-    ensures { MatchOption result ((b : ℕ) → Pair high low b → ⊥) (λ b. Pair high low b) }
+    ensures { MatchOption result ((b : ℕ) → ¬ Pair high low b) (Pair high low) }
 {
     Some(digit(high)? * 16 + digit(low)?)
 }
 
-/// The bytes of the longest frame and one more: a line that fills this much is too long for every kind.
+/// The bytes of the longest frame and one more: a line that fills this much is too long for every
+/// kind.
 const ROOM: usize = 15;
 
-/// The first bytes that a line spells. Each digit of the line is read, and the bytes past the room are left out.
+/// The first bytes that a line spells. Each digit of the line is read, and the bytes past the room
+/// are left out.
 fn decode(line: &[u8]) -> Option<ArrayVec<u8, ROOM>>
-    ensures { MatchOption result ((bytes : List ℕ) → Spells line.now bytes → ⊥)
+    ensures { MatchOption result ((bytes : List ℕ) → ¬ Spells line.now bytes)
         (λ front. Decoded line.now front.items) }
 {
     let (pairs, []) = line.as_chunks::<2>() else {

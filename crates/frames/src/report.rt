@@ -1,7 +1,7 @@
 //! Report lines: one for each line of a case file, in capital digits.
 
 ghost use Rattle.std.specs.Prelude.{◌≡◌, ◌*◌, ◌<◌, ◌≤◌, ◌++◌, length, None};
-ghost use Rattle.frames.specs.Digits.{written};
+ghost use Rattle.frames.specs.Digits.{digits_of};
 ghost use Rattle.frames.specs.Reports.{accepted_bytes, found_bytes, refused_bytes, Printed};
 
 use crate::digits::hex_pair;
@@ -17,7 +17,7 @@ pub enum Added {
 }
 
 /// What the report line of a refused frame says.
-// Kept: the numbers as they stand in the line; an enum for one would ask more of who writes a line.
+// The numbers as they stand in the line: an enum for one would ask more of who writes a line.
 #[derive(Clone, Copy, PartialEq, Eq, Debug)]
 pub struct Refused {
     /// The kind of the frame, or 0 where none could be read.
@@ -34,16 +34,16 @@ pub struct Refused {
 /// Writes the digits of the bytes.
 fn put_digits(bytes: &[u8], digits: &mut [u8])
     requires { length digits.old ≡ 2 * length bytes.now }
-    ensures { digits.new ≡ written bytes.now }
+    ensures { digits.new ≡ digits_of bytes.now }
 {
-    // Kept: the place of each pair by its index, since chunks_exact_mut does not say what the slice then holds.
+    // Each pair by its index, since chunks_exact_mut does not say what the slice then holds.
     for (i, byte) in bytes.iter().enumerate() {
         digits[2 * i..2 * i + 2].copy_from_slice(&hex_pair(*byte));
     }
 }
 
-/// Writes the report line of the bytes of `head` and then of `tail` to the front of the buffer, and says how long it is;
-/// or, where the buffer is too short for it, nothing.
+/// Writes the report line of the bytes of `head` and then of `tail` to the front of the buffer, and
+/// says how long it is; or, where the buffer is too short for it, nothing.
 fn write_line(head: &[u8], tail: &[u8], buffer: &mut [u8]) -> Option<usize>
     ensures { Printed (head.now ++ tail.now) buffer.old buffer.new result }
 {
@@ -62,7 +62,7 @@ fn write_line(head: &[u8], tail: &[u8], buffer: &mut [u8]) -> Option<usize>
 pub fn write_accepted(kind: u8, buffer: &mut [u8]) -> Option<usize>
     ensures { Printed (accepted_bytes kind) buffer.old buffer.new result }
 {
-    // Kept: the kind as a byte, since Kind would ask more of the caller.
+    // The kind is a byte, since Kind would ask more of the caller.
     write_line(&[kind, 0], &[], buffer)
 }
 
@@ -82,8 +82,8 @@ pub fn write_refused(refused: &Refused, buffer: &mut [u8]) -> Option<usize>
     }
 }
 
-/// Writes the report line of an accepted find: the set, how many facts it has, and the places of the plan, of which a
-/// line can count 65,535.
+/// Writes the report line of an accepted find: the set, how many facts it has, and the places of
+/// the plan, of which a line can count 65,535.
 pub fn write_found(facts: u32, size: u8, places: &[u8], buffer: &mut [u8]) -> Option<usize>
     ensures printed { length places.now < 65536
         → Printed (found_bytes facts size places.now) buffer.old buffer.new result }

@@ -1,6 +1,7 @@
 //! What is proved of digits, numbers and frames as a whole, each as the contract of a function.
 
-ghost use Rattle.frames.specs.Theorems.{WrittenBytesReadBack, WrittenNumbersReadBack, WrittenFramesReadBack, LinesSayOneThing, LinesAreCutOneWay};
+ghost use Rattle.frames.specs.Theorems.{WrittenBytesReadBack, WrittenNumbersReadBack};
+ghost use Rattle.frames.specs.Theorems.{WrittenFramesReadBack, LinesSayOneThing, LinesAreCutOneWay};
 
 /// The written digits of bytes read back as these bytes.
 pub fn written_bytes_read_back()

@@ -6,7 +6,8 @@ use pickers::CountingPicker;
 use std::alloc::Global;
 use std::io;
 
-/// A case of two facts: the step at place 0 needs fact 0 and gives fact 1, which is ordered. Fact 0 is found.
+/// A case of two facts: the step at place 0 needs fact 0 and gives fact 1, which is ordered. Fact 0
+/// is found.
 fn found_case(heap: Global, number: u32) -> io::Result<Case> {
     let mut case = Case::new(heap)?;
     let mut sheet = [Row::default(); 4];
@@ -22,7 +23,8 @@ fn found_case(heap: Global, number: u32) -> io::Result<Case> {
     Ok(case)
 }
 
-/// Draws a slip of one case, and brings it to another, which hands it back; then it is signed where it belongs.
+/// Draws a slip of one case, and brings it to another, which hands it back; then it is signed where
+/// it belongs.
 pub(crate) fn report_foreign(rt: &HostRuntime) -> io::Result<()> {
     let mut own = found_case(rt.alloc(), 7)?;
     let mut other = found_case(rt.alloc(), 8)?;

@@ -1,4 +1,5 @@
-//! Makes long lists of calls, accepted and refused, on fresh cases, by two deciders and two pickers, and prints what the calls answer.
+//! Makes long lists of calls, accepted and refused, on fresh cases, by two deciders and two
+//! pickers, and prints what the calls answer.
 
 #![tactic(auto)]
 
@@ -129,7 +130,8 @@ fn report<D: Decider, P: Picker>(
     Ok(())
 }
 
-/// Makes lists of calls that look random, each on a fresh case, and prints how often each call was accepted and refused.
+/// Makes lists of calls that look random, each on a fresh case, and prints how often each call was
+/// accepted and refused.
 fn report_random<D: Decider, P: Picker>(
     rt: &HostRuntime,
     decider: &mut D,

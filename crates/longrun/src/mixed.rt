@@ -1,7 +1,8 @@
 //! All twelve calls, with every refusal of each but list full.
 //!
-//! The case has five facts. Fact 1 stands, and facts 2 and 3 are ordered. The step at place 0 needs 1 and 2, gives 3 and takes 1; the
-//! one at place 1 needs 0 and gives 2. So the set of fact 0 is the only smallest good set, and every picker's answer.
+//! The case has five facts. Fact 1 stands, and facts 2 and 3 are ordered. The step at place 0 needs
+//! 1 and 2, gives 3 and takes 1; the one at place 1 needs 0 and gives 2. So the set of fact 0 is
+//! the only smallest good set, and every picker's answer.
 
 use crate::making::{change, find, open, put, sign, tear};
 use cases::Call;
@@ -91,7 +92,8 @@ fn torn(heap: Global, calls: &mut Vec<Call>) -> Result<(), AllocError> {
     Ok(())
 }
 
-/// The finding outlives its torn slip but no other call; then a slip is signed, and its fact is waived.
+/// The finding outlives its torn slip but no other call; then a slip is signed, and its fact is
+/// waived.
 fn signed(heap: Global, calls: &mut Vec<Call>) -> Result<(), AllocError> {
     calls.push(Call::Draw)?;
     calls.push(tear(7, 0b00001))?;

@@ -41,8 +41,8 @@ impl Numbers {
 
 /// A step into some place; it seldom takes what it gives.
 fn some_put(numbers: &mut Numbers) -> Call {
-    let wanted = if numbers.some() < 32 { ORDERED } else { 0 };
-    let gives = numbers.few() | wanted;
+    let ordered = if numbers.some() < 32 { ORDERED } else { 0 };
+    let gives = numbers.few() | ordered;
     let takes = numbers.few();
     let others = difference(takes, gives);
     let takes = if numbers.some() == 0 { takes } else { others };
@@ -59,8 +59,8 @@ fn some_find(heap: Global, numbers: &mut Numbers) -> Result<Call, AllocError> {
     }
 }
 
-/// Finds a set and draws a slip for it. Then makes a call that is refused while the slip is out, perhaps guesses its set to sign it, and
-/// tears it by trying all sets.
+/// Finds a set and draws a slip for it. Then makes a call that is refused while the slip is out,
+/// perhaps guesses its set to sign it, and tears it by trying all sets.
 fn slip(heap: Global, numbers: &mut Numbers, calls: &mut Vec<Call>) -> Result<(), AllocError> {
     calls.push(find(heap, 32, 32)?)?;
     calls.push(Call::Draw)?;

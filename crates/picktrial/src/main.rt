@@ -1,4 +1,5 @@
-//! Answers each line of the input, a list of sets as decimal numbers, by both pickers: the lowest and the highest of the smallest sets.
+//! Answers each line of the input, a list of sets as decimal numbers, by both pickers: the lowest
+//! and the highest of the minimum hitting sets.
 
 #![tactic(auto)]
 
@@ -9,7 +10,7 @@ use std::io;
 
 /// The sets of a line; nothing where a word is no 32-bit number.
 fn read_list(heap: Global, line: &str) -> Result<Option<Vec<Facts>>, AllocError> {
-    // Kept: a loop, since try_collect wants one error for both a bad word and no memory.
+    // A loop, since try_collect wants one error for both a bad word and no memory.
     let mut groups = Vec::new(heap);
     for word in line.split_whitespace() {
         let Ok(group) = word.parse::<Facts>() else {

@@ -5,10 +5,10 @@ use Rattle.std.proofs.lemmas.List.{take_all}
 use Rattle.rules.specs.Steps.{Step}
 use Rattle.rules.specs.declared.check.PlanCheck.TheVariants.{IsPlan, StopsAt, Missing}
 use Rattle.rules.specs.Sets.{bit, ◌⊆◌, ◌∖◌, inside}
-use Rattle.rules.specs.Planning.{Task, held, done, step_without, place_without, gone, strike, Plan, Walk}
+use Rattle.rules.specs.Planning.{Task, step_at, result_of, step_without, place_without, struck_facts, strike, Plan, Walk}
 use Rattle.rules.specs.Checking.{Undoable, Checks, ChecksOnce, Does}
 use Rattle.rules.proofs.Sets.{bits, bit_minus, bit_none, none_below, inside→, →inside}
-use Rattle.rules.proofs.Plans.{held_struck, leads→, →leads}
+use Rattle.rules.proofs.Plans.{step_at_struck, leads→, →leads}
 
 pub undone : (o : Option Step) (g s : ℕ) (u v : Step) (b : Bool) → o ≡ Some u → v ≡ step_without g u → b ≡ inside v.needs s → b ≡ false
     → Undoable (place_without g o) s
@@ -16,7 +16,7 @@ undone o g s u v b is e test off =
     inr (v, ap (place_without g) is ∙ ap Some (sym e), λ h. subst T (sym test ∙ off) (→inside v.needs s h))
 
 pub done_at : (o : Option Step) (g s : ℕ) (u v : Step) (b : Bool) (r : ℕ) → o ≡ Some u → v ≡ step_without g u → b ≡ inside v.needs s → b ≡ true
-    → r ≡ done v s → Does (place_without g o) s r
+    → r ≡ result_of v s → Does (place_without g o) s r
 done_at o g s u v b r is e test on q =
     (v, ap (place_without g) is ∙ ap Some (sym e), inside→ v.needs s (subst T (sym (sym test ∙ on)) tt), q)
 
@@ -25,10 +25,10 @@ done_at o g s u v b r is e test on q =
 pub walk_more : (ts : List (Option Step)) (s : ℕ) (l : List ℕ) (i e e' : ℕ) → i < length l → Walk ts s (take i l) e → Does (get_or ts (get_or l i 0) None) e e'
     → Walk ts s (take (i + 1) l) e'
 walk_more ts s [] i e e' h on does = absurd (omega arith)
-walk_more ts s (a ∷ l) zero e e' h on (t, is, can, q) = (t, is, subst (λ x. t.needs ⊆ x) (sym on) can, ap (done t) on ∙ sym q)
+walk_more ts s (a ∷ l) zero e e' h on (t, is, can, q) = (t, is, subst (λ x. t.needs ⊆ x) (sym on) can, ap (result_of t) on ∙ sym q)
 walk_more ts s (a ∷ l) (suc i) e e' h (t, is, can, on) does =
     let n : suc i + 1 ≡ suc (i + 1) = omega arith in
-    subst (λ k. Walk ts s (take k (a ∷ l)) e') (sym n) (t, is, can, walk_more ts (done t s) l i e e' (omega arith) on does)
+    subst (λ k. Walk ts s (take k (a ∷ l)) e') (sym n) (t, is, can, walk_more ts (result_of t s) l i e e' (omega arith) on does)
 
 -- ---- a walk ends in one standing
 
@@ -39,7 +39,7 @@ pub walk_once : (ts : List (Option Step)) (s : ℕ) (l : List ℕ) (d e : ℕ) �
 walk_once ts s [] d e a b = sym a ∙ b
 walk_once ts s (i ∷ l) d e (t, is, can, on) (u, is', can', on') =
     let q : u ≡ t = same_step (get_or ts i None) u t is' is in
-    walk_once ts (done t s) l d e on (subst (λ (v : Step). Walk ts (done v s) l e) q on')
+    walk_once ts (result_of t s) l d e on (subst (λ (v : Step). Walk ts (result_of v s) l e) q on')
 
 -- a walk over l does not stop inside l
 no_stop : (ts : List (Option Step)) (s : ℕ) (l : List ℕ) (e i d : ℕ) → Walk ts s l e → i < length l → Walk ts s (take i l) d → Undoable (get_or ts (get_or l i 0) None) d → ⊥
@@ -50,7 +50,7 @@ no_stop ts s (a ∷ l) e zero d (t, is, can, on) h part (inr (u, is', lacks)) =
     lacks (subst (λ (v : Step). v.needs ⊆ d) (sym q) (subst (λ x. t.needs ⊆ x) part can))
 no_stop ts s (a ∷ l) e (suc i) d (t, is, can, on) h (u, is', can', part) stop =
     let q : u ≡ t = same_step (get_or ts a None) u t is' is in
-    no_stop ts (done t s) l e i d on (omega arith) (subst (λ (v : Step). Walk ts (done v s) (take i l) d) q part) stop
+    no_stop ts (result_of t s) l e i d on (omega arith) (subst (λ (v : Step). Walk ts (result_of v s) (take i l) d) q part) stop
 
 -- of two stops the second is not later
 no_later : (ts : List (Option Step)) (s : ℕ) (l : List ℕ) (i j d e : ℕ) → i < j → j < length l → Walk ts s (take j l) e
@@ -63,7 +63,7 @@ no_later ts s (a ∷ l) zero (suc j) d e i<j h (t, is, can, on) part (inr (u, is
     lacks (subst (λ (v : Step). v.needs ⊆ d) (sym q) (subst (λ x. t.needs ⊆ x) part can))
 no_later ts s (a ∷ l) (suc i) (suc j) d e i<j h (t, is, can, on) (u, is', can', part) stop =
     let q : u ≡ t = same_step (get_or ts a None) u t is' is in
-    no_later ts (done t s) l i j d e (omega arith) (omega arith) on (subst (λ (v : Step). Walk ts (done v s) (take i l) d) q part) stop
+    no_later ts (result_of t s) l i j d e (omega arith) (omega arith) on (subst (λ (v : Step). Walk ts (result_of v s) (take i l) d) q part) stop
 
 -- nothing is missing exactly where the order stands
 none_missing : (o s m : ℕ) → o ⊆ s → m ≡ o ∖ s → 0 < m → ⊥
@@ -114,14 +114,14 @@ module _ (p : Task) (x start : ℕ) (l : List ℕ) (i e : ℕ) (begins : start �
   from_start = subst (λ s. Walk (strike p x).steps s (take i l) e) begins on
 
   -- the walk stops at the place i
-  pub stops_at : i < length l → Undoable (place_without (gone p x) (held p (get_or l i 0))) e → Checks (strike p x) l (StopsAt i)
-  stops_at h stop = (h, (e, from_start, subst (λ o. Undoable o e) (sym (held_struck p x (get_or l i 0))) stop))
+  pub stops_at : i < length l → Undoable (place_without (struck_facts p x) (step_at p (get_or l i 0))) e → Checks (strike p x) l (StopsAt i)
+  stops_at h stop = (h, (e, from_start, subst (λ o. Undoable o e) (sym (step_at_struck p x (get_or l i 0))) stop))
 
   -- the walk goes on past the place i
-  pub goes_on : (e' : ℕ) → i < length l → Does (place_without (gone p x) (held p (get_or l i 0))) e e'
+  pub goes_on : (e' : ℕ) → i < length l → Does (place_without (struck_facts p x) (step_at p (get_or l i 0))) e e'
       → Walk (strike p x).steps start (take (i + 1) l) e'
   goes_on e' h does =
-      walk_more (strike p x).steps start l i e e' h on (subst (λ o. Does o e e') (sym (held_struck p x (get_or l i 0))) does)
+      walk_more (strike p x).steps start l i e e' h on (subst (λ o. Does o e e') (sym (step_at_struck p x (get_or l i 0))) does)
 
   all_walked : length l ≤ i → Walk (strike p x).steps (strike p x).standing l e
   all_walked h = subst (λ m. Walk (strike p x).steps (strike p x).standing m e) (take_all i l h) from_start

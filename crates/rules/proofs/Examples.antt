@@ -1,13 +1,13 @@
 -- Worked examples, by computing: plans that are run, and listings that are written out.
-use Rattle.std.proofs.Common.{◌≡◌, ℕ, zero, suc, ◌<◌, ◌≤◌, Bool, true, false, not, ◌&&◌, T, leb, List, [], ◌∷◌, length, get_or, Some, None, Option, refl, arith, leb→le, T_not}
+use Rattle.std.proofs.Common.{◌≡◌, ℕ, zero, suc, ◌<◌, Bool, true, false, not, ◌&&◌, T, leb, List, [], ◌∷◌, length, get_or, Some, None, Option, refl, arith, leb→le, T_not}
 use lib.Count.{ones}
 use Rattle.rules.specs.Steps.{Step}
-use Rattle.rules.specs.Sets.{bit, ◌⊆◌, ◌∖◌, Meets, single, size, inside}
-use Rattle.rules.specs.Planning.{Task, held, done, Leads, Plan, strike, Blocked}
-use Rattle.rules.specs.Waivers.{waivable, Group, Hits, Smallest}
+use Rattle.rules.specs.Sets.{bit, ◌⊆◌, ◌∖◌, inside}
+use Rattle.rules.specs.Planning.{Task, step_at, result_of, Leads, Plan, strike, Blocked}
+use Rattle.rules.specs.Waivers.{waivable, Group, Hits, MinimumHittingSet}
 use Rattle.rules.specs.Listing.{standings}
 use Rattle.rules.specs.Examples.{C, Hopeless, WorkedExamples}
-use Rattle.rules.proofs.Sets.{inside→, →inside, bit_none, single_sub, ones_sub, size_single}
+use Rattle.rules.proofs.Sets.{inside→, →inside, bit_none, has_fact}
 use Rattle.rules.proofs.Groups.{no_way}
 use Rattle.rules.proofs.Forwards.{whole_blocked}
 
@@ -19,18 +19,18 @@ both false b h = elim h [ ]
 
 abbrev pub runs : Task → ℕ → List ℕ → Bool
 runs p s [] = inside p.order s
-runs p s (i ∷ l) = elim (held p i) [ None ↦ false | Some t ↦ inside t.needs s && runs p (done t s) l ]
+runs p s (i ∷ l) = elim (step_at p i) [ None ↦ false | Some t ↦ inside t.needs s && runs p (result_of t s) l ]
 
 runs→ : (p : Task) (s : ℕ) (l : List ℕ) → T (runs p s l) → Leads p s l
 runs→ p s [] h = inside→ p.order s h
-runs→ p s (i ∷ l) h = go (held p i) refl (λ t. runs→ p (done t s) l) h
+runs→ p s (i ∷ l) h = go (step_at p i) refl (λ t. runs→ p (result_of t s) l) h
   where
-    go : (o : Option Step) → held p i ≡ o → ((t : Step) → T (runs p (done t s) l) → Leads p (done t s) l)
-        → T (elim o [ None ↦ false | Some t ↦ inside t.needs s && runs p (done t s) l ])
-        → (t : Step) × (held p i ≡ Some t) × (t.needs ⊆ s) × Leads p (done t s) l
+    go : (o : Option Step) → step_at p i ≡ o → ((t : Step) → T (runs p (result_of t s) l) → Leads p (result_of t s) l)
+        → T (elim o [ None ↦ false | Some t ↦ inside t.needs s && runs p (result_of t s) l ])
+        → (t : Step) × (step_at p i ≡ Some t) × (t.needs ⊆ s) × Leads p (result_of t s) l
     go None e ih h = elim h [ ]
     go (Some t) e ih h =
-        let (a, b) = both (inside t.needs s) (runs p (done t s) l) h in (t, e, inside→ t.needs s a, ih t b)
+        let (a, b) = both (inside t.needs s) (runs p (result_of t s) l) h in (t, e, inside→ t.needs s a, ih t b)
 
 pub plan_by : (p : Task) (l : List ℕ) → T (runs p p.standing l) → Plan p l
 plan_by p l = runs→ p p.standing l
@@ -58,15 +58,17 @@ blocked_by p x m h (l, plan) =
 
 -- ---- sets that meet
 
-some_fact : (k g : ℕ) → Meets k g → 1 ≤ size k
-some_fact k g (f, i, j) = omega (arith, ones_sub k (single f) (single_sub k f i), size_single f)
-
-met_by_2 : Smallest (0b0101 ∷ 0b1100 ∷ []) 0b0100
+pub met_by_2 : MinimumHittingSet (0b0101 ∷ 0b1100 ∷ []) 0b0100
 unfolding bit ones
-met_by_2 = (((2, refl, refl), ((2, refl, refl), tt)), λ k (h, rest). some_fact k 0b0101 h)
+met_by_2 = (hits, λ k h. (let (f, i, j) = h 0 0 (omega arith) in has_fact k f i))
+  where
+    hits : Hits (0b0101 ∷ 0b1100 ∷ []) 0b0100
+    hits zero d lt = (2, refl, refl)
+    hits (suc zero) d lt = (2, refl, refl)
+    hits (suc (suc i)) d lt = absurd (omega arith)
 
 empty_unmet : (h : ℕ) → Hits (0b0101 ∷ 0 ∷ []) h → ⊥
-empty_unmet h (a, ((f, i, j), rest)) = omega (arith, bit_none f)
+empty_unmet h m = let (f, i, j) = m 1 0 (omega arith) in omega (arith, bit_none f)
 
 hopeless_group : Group Hopeless 0
 unfolding inside

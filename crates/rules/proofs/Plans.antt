@@ -3,13 +3,13 @@ use Rattle.std.proofs.Common.{◌≡◌, ℕ, zero, suc, List, [], ◌∷◌, ge
 use lib.ListN.{get_or-map}
 use Rattle.rules.specs.Steps.{Step}
 use Rattle.rules.specs.Sets.{bit, ◌⊆◌, ◌∪◌}
-use Rattle.rules.specs.Planning.{Task, held, done, Leads, Plan, Walk, step_without, place_without, gone, strike}
+use Rattle.rules.specs.Planning.{Task, step_at, result_of, Leads, Plan, Walk, step_without, place_without, struck_facts, strike}
 use Rattle.rules.specs.Setters.{with_standing, with_order, with_steps}
 use Rattle.rules.specs.Theorems.{StrikingMore, OrderingLess, StandingMore, AdditionalStep, Emptying, Doing, PlansWalk}
 use Rattle.rules.proofs.Sets.{bits}
 
-pub held_struck : (p : Task) (x i : ℕ) → held (strike p x) i ≡ place_without (gone p x) (held p i)
-held_struck p x i = get_or-map (place_without (gone p x)) p.steps i None
+pub step_at_struck : (p : Task) (x i : ℕ) → step_at (strike p x) i ≡ place_without (struck_facts p x) (step_at p i)
+step_at_struck p x i = get_or-map (place_without (struck_facts p x)) p.steps i None
 
 pub some_without : (g : ℕ) (o : Option Step) (t : Step) → place_without g o ≡ Some t → (u : Step) × (o ≡ Some u) × (step_without g u ≡ t)
 some_without g None t e = absurd (let z : ◌≡◌ {A = ℕ} 0 1 = cc in omega arith)
@@ -17,23 +17,23 @@ some_without g (Some u) t e = (u, refl, cc)
 
 -- q with y struck out is no harder than p with x struck out
 pub record Easier (p : Task) (x : ℕ) (q : Task) (y : ℕ) : Type 0 where
-  pub struck : gone p x ⊆ gone q y
+  pub struck : struck_facts p x ⊆ struck_facts q y
   pub order : q.order ⊆ p.order
-  pub steps : (i : ℕ) (t : Step) → held p i ≡ Some t → held q i ≡ Some t
+  pub steps : (i : ℕ) (t : Step) → step_at p i ≡ Some t → step_at q i ≡ Some t
 
 module _ (p : Task) (x : ℕ) (q : Task) (y : ℕ) (h : Easier p x q y) where
-  leads_on : (s s' : ℕ) (l : List ℕ) → s ⊆ s' ∪ (gone q y) → Leads (strike p x) s l → Leads (strike q y) s' l
+  leads_on : (s s' : ℕ) (l : List ℕ) → s ⊆ s' ∪ (struck_facts q y) → Leads (strike p x) s l → Leads (strike q y) s' l
   leads_on s s' [] k e = λ f. omega (arith, bits, k f, e f, h.struck f, h.order f)
   leads_on s s' (i ∷ l) k (t, is, can, on) =
-      let (u, has, e) = some_without (gone p x) (held p i) t (sym (held_struck p x i) ∙ is) in
-      let v : Step = step_without (gone q y) u in
+      let (u, has, e) = some_without (struck_facts p x) (step_at p i) t (sym (step_at_struck p x i) ∙ is) in
+      let v : Step = step_without (struck_facts q y) u in
       let en = λ (f : ℕ). ap (λ (w : Step). bit w.needs f) e in
       let eg = λ (f : ℕ). ap (λ (w : Step). bit w.gives f) e in
       let et = λ (f : ℕ). ap (λ (w : Step). bit w.takes f) e in (
         v,
-        held_struck q y i ∙ ap (place_without (gone q y)) (h.steps i u has),
+        step_at_struck q y i ∙ ap (place_without (struck_facts q y)) (h.steps i u has),
         (λ f. omega (arith, bits, k f, can f, en f, h.struck f)),
-        leads_on (done t s) (done v s') l (λ f. omega (arith, bits, k f, eg f, et f, h.struck f)) on,
+        leads_on (result_of t s) (result_of v s') l (λ f. omega (arith, bits, k f, eg f, et f, h.struck f)) on,
       )
 
   pub easier : p.standing ⊆ q.standing → (l : List ℕ) → Plan (strike p x) l → Plan (strike q y) l
@@ -82,17 +82,17 @@ additional_step p i t x l free =
 
 pub doing : Doing
 doing p i t x is can stuck (l, on) =
-    let g : ℕ = gone p x in
-    let q : Task = with_standing p (done t p.standing) in
+    let g : ℕ = struck_facts p x in
+    let q : Task = with_standing p (result_of t p.standing) in
     let u : Step = step_without g t in
     stuck (
       i ∷ l,
       (
         u,
-        held_struck p x i ∙ ap (place_without g) is,
+        step_at_struck p x i ∙ ap (place_without g) is,
         (λ f. omega (arith, bits, can f)),
         leads_on q x p x (record { struck = λ f. omega arith; order = λ f. omega arith; steps = λ i t e. e })
-            (strike q x).standing (done u (strike p x).standing) l (λ f. omega (arith, bits)) on,
+            (strike q x).standing (result_of u (strike p x).standing) l (λ f. omega (arith, bits)) on,
       ),
     )
 
@@ -100,11 +100,11 @@ doing p i t x is can stuck (l, on) =
 
 pub leads→ : (p : Task) (s : ℕ) (l : List ℕ) → Leads p s l → (e : ℕ) × Walk p.steps s l e × (p.order ⊆ e)
 leads→ p s [] h = (s, refl, h)
-leads→ p s (i ∷ l) (t, is, can, on) = let (e, k, q) = leads→ p (done t s) l on in (e, (t, is, can, k), q)
+leads→ p s (i ∷ l) (t, is, can, on) = let (e, k, q) = leads→ p (result_of t s) l on in (e, (t, is, can, k), q)
 
 pub →leads : (p : Task) (s : ℕ) (l : List ℕ) (e : ℕ) → Walk p.steps s l e → p.order ⊆ e → Leads p s l
 →leads p s [] e q o = subst (λ x. p.order ⊆ x) (sym q) o
-→leads p s (i ∷ l) e (t, is, can, on) o = (t, is, can, →leads p (done t s) l e on o)
+→leads p s (i ∷ l) e (t, is, can, on) o = (t, is, can, →leads p (result_of t s) l e on o)
 
 pub plans_walk : PlansWalk
 plans_walk p l = (leads→ p p.standing l, λ (e, on, o). →leads p p.standing l e on o)

@@ -1,12 +1,14 @@
 -- Sets of facts, digit by digit.
-use Rattle.std.proofs.Common.{◌≡◌, ℕ, zero, suc, ◌+◌, ◌-◌, ◌/◌, ◌%◌, ◌^◌, ◌<◌, ◌≤◌, min, max, Bool, true, false, not, T, eqb, ◌⊎◌, sym, refl, ap, ◌∙◌, subst, inl, inr, le_of_eq, eq-zero-or-pos, arith, eqb→eq, T_not, pow_pos}
+use Rattle.std.proofs.Common.{◌↔◌, IsTrue, ◌≡◌, ℕ, zero, suc, ◌+◌, ◌-◌, ◌/◌, ◌%◌, ◌^◌, ◌<◌, ◌≤◌, min, max, Bool, true, false, not, T, eqb, ◌⊎◌, sym, refl, ap, ◌∙◌, subst, inl, inr, le_of_eq, eq-zero-or-pos, arith, eqb→eq, T_not, pow_pos}
 use native.Mathlib.Decide.{dec_lt}
-use Rattle.std.proofs.lemmas.Bool.{cases_eq}
+use Rattle.std.proofs.lemmas.Bool.{cases_eq, cases_lt}
+use Rattle.std.proofs.lemmas.Float.{T_from_true}
 use lib.Count.{ones, ones_step, ones-ones}
 use Rattle.std.proofs.lemmas.Nat.Bits.{bit_at-lt, bit_at_lowest, bit_at-suc, bit_at-zero, bit_at_and, bit_at_or, bit_at_xor, bit_at-pow_same, bit_at-pow_other, bit_at_ones, bit_at_ones_above, bit_at_above, same_from_bits}
 use lib.Arith.{bin_ind}
 use lib.Bits.{bit_and, bit_or, or_step, or_shr}
-use Rattle.rules.specs.Sets.{bit, ◌∈◌, ◌∖◌, ◌⊆◌, ◌∪◌, ◌∩◌, Meets, single, below, size, inside, SetsMean, SizesMean}
+use Rattle.rules.specs.Sets.{bit, ◌∈◌, ◌∖◌, ◌⊆◌, ◌∪◌, ◌∩◌, Meets, single, below, size, inside, shares, SetsMean, SizesMean}
+use Rattle.rules.proofs.Listing.{T→true}
 
 pub bit_le : (a f : ℕ) → bit a f ≤ 1
 unfolding bit
@@ -62,10 +64,20 @@ single_only f g h = elim (cases_eq g f) [ inl e ↦ e | inr apart ↦ absurd (om
 
 -- ---- two sets share a fact or lie apart
 
+-- a & b != 0
+pub meets→pos : (a b : ℕ) → Meets a b → zero < bit_and a b
+meets→pos a b (f, i, j) = elim (eq-zero-or-pos (bit_and a b)) [
+  | inl e ↦ absurd (omega (arith, bit_of_and a b f, ap (λ (x : ℕ). bit x f) e, bit_none f))
+  | inr p ↦ p
+]
+
+pub pos→meets : (a b : ℕ) → zero < bit_and a b → Meets a b
+pos→meets a b p = let (f, k) = some_bit (bit_and a b) p in (f, omega (arith, bits, bit_of_and a b f), omega (arith, bits, bit_of_and a b f))
+
 pub meets_or_apart : (a b : ℕ) → Meets a b ⊎ ((f : ℕ) → bit a f + bit b f ≤ 1)
 meets_or_apart a b = elim (eq-zero-or-pos (bit_and a b)) [
   | inl e ↦ inr (λ f. omega (arith, bits, ap (λ (x : ℕ). bit x f) e, bit_none f))
-  | inr p ↦ (let (f, k) = some_bit (bit_and a b) p in inl (f, omega (arith, bits, bit_of_and a b f), omega (arith, bits, bit_of_and a b f)))
+  | inr p ↦ inl (pos→meets a b p)
 ]
 
 -- ---- how many facts
@@ -123,16 +135,6 @@ and_not k a b h i =
 
 -- ---- more that code asks for
 
--- a & b != 0
-pub meets→pos : (a b : ℕ) → Meets a b → zero < bit_and a b
-meets→pos a b (f, i, j) = elim (eq-zero-or-pos (bit_and a b)) [
-  | inl e ↦ absurd (omega (arith, bit_of_and a b f, ap (λ (x : ℕ). bit x f) e, bit_none f))
-  | inr p ↦ p
-]
-
-pub pos→meets : (a b : ℕ) → zero < bit_and a b → Meets a b
-pos→meets a b p = let (f, k) = some_bit (bit_and a b) p in (f, omega (arith, bits, bit_of_and a b f), omega (arith, bits, bit_of_and a b f))
-
 pub sub_le : (b a : ℕ) → a ⊆ b → a ≤ b
 sub_le = bin_ind (λ (n : ℕ). (a : ℕ) → a ⊆ n → a ≤ n) (λ a h. le_of_eq (none_below a h))
     (λ n ih a h. omega (arith, ih (a / 2) (halves a n h), h zero, bit_low a, bit_low n))
@@ -141,6 +143,15 @@ pub single_sub : (a f : ℕ) → f ∈ a → 2 ^ f ⊆ a
 single_sub a f i g = elim (eq-zero-or-pos (bit (2 ^ f) g)) [
   | inl e ↦ omega arith
   | inr q ↦ (let s : bit (2 ^ f) g ≡ 1 = omega (arith, bits) in let e = ap (bit a) (single_only f g s) in omega (arith, bits))
+]
+
+-- a set with one more fact is a higher number
+pub sub_lt : (b a f : ℕ) → a ⊆ b → f ∈ b → bit a f ≡ 0 → a < b
+sub_lt b a f le there none = elim (cases_lt a b) [
+  | inl lt ↦ lt
+  | inr ge ↦ (
+      let same : a ≡ b = omega (arith, sub_le b a le) in
+      absurd (omega (arith, ap (λ (x : ℕ). bit x f) same)))
 ]
 
 or_half : (a b : ℕ) → bit_or a b / 2 ≡ bit_or (a / 2) (b / 2)
@@ -189,6 +200,10 @@ unfolding inside
     let e : a ∖ b ≡ 0 = none_below (a ∖ b) (λ f. omega (arith, bits, h f)) in
     subst (λ (x : ℕ). T (eqb x 0)) (sym e) tt
 
+-- the test and its meaning
+pub inside_means : (a b : ℕ) → IsTrue (inside a b) ↔ (a ⊆ b)
+inside_means a b = ((λ h. inside→ a b (T_from_true (inside a b) h)), λ h. T→true (inside a b) (→inside a b h))
+
 pub inside_dec : (a b : ℕ) → (a ⊆ b) ⊎ (a ⊆ b → ⊥)
 inside_dec a b = go (inside a b) refl
   where
@@ -218,6 +233,10 @@ unfolding ones
 size_single zero = refl
 size_single (suc f) = omega (arith, ones_step (2 ^ suc f), ap ones (half_pow f), size_single f)
 
+-- a set with a fact has at least one
+pub has_fact : (a f : ℕ) → f ∈ a → 1 ≤ size a
+has_fact a f i = omega (arith, size_single f, ones_sub a (single f) (single_sub a f i))
+
 -- ---- the words mean what they should
 
 bit_cases : (a f : ℕ) → (bit a f ≡ zero) ⊎ (bit a f ≡ 1)
@@ -242,7 +261,7 @@ sets_mean = (
   (λ f g. (single_only g f, λ e. ap (bit (2 ^ g)) e ∙ single_in g)),
   (λ f n. ((λ i. elim (dec_lt f n) [ yes h ↦ h | no h ↦ absurd (omega (arith, bit_above n f (omega arith))) ]), bit_below n f)),
   (λ f i. omega (arith, bit_none f)),
-  (λ a b. (inside→ a b, →inside a b)),
+  inside_means,
   λ a b. (→apart a b, apart_and a b),
 )
 
@@ -264,3 +283,6 @@ test_share a b m = go (eqb (a ∩ b) 0) refl
     go : (t : Bool) → eqb (a ∩ b) 0 ≡ t → T (not t)
     go true e = absurd (omega (arith, eqb→eq (a ∩ b) 0 (subst T (sym e) tt), meets→pos a b m))
     go false e = tt
+
+pub shares_means : (a b : ℕ) → IsTrue (shares a b) ↔ Meets a b
+shares_means a b = ((λ h. share_test a b (T_from_true (shares a b) h)), λ m. T→true (shares a b) (test_share a b m))

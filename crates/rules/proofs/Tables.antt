@@ -1,12 +1,29 @@
--- The step places of a table: what holds of each step in them.
-use Rattle.std.proofs.Common.{◌≡◌, ℕ, zero, suc, List, get_or, replicate, Some, None, Option, arith}
-use Rattle.rules.specs.Steps.{Step}
+-- The step places of a table.
+use Rattle.std.proofs.Common.{◌≡◌, ℕ, zero, suc, List, [], ◌∷◌, length, get_or, Some, None, Option, ap, subst, arith}
+use native.Mathlib.Decide.{dec_lt}
+use Rattle.std.specs.Prelude.{IfSome}
+use Rattle.std.proofs.lemmas.Grind.{common_steps}
+use Rattle.rules.specs.Steps.{Step, IsClear}
+use Rattle.rules.specs.Places.{AllClear}
+use Rattle.rules.specs.Sets.{bit, ◌⊆◌, ◌∪◌}
+use Rattle.rules.proofs.Sets.{bits}
 
--- P holds of each step in the places
-abbrev pub EachStep : (Step → Type 0) → List (Option Step) → Type 0
-EachStep P ts = (i : ℕ) (t : Step) → get_or ts i None ≡ Some t → P t
+-- the step at a place gives nothing that it takes
+pub clear_at : (ts : List (Option Step)) (i : ℕ) (t : Step) → AllClear ts → get_or ts i None ≡ Some t → IsClear t
+clear_at ts i t h e = elim (dec_lt i (length ts)) [
+  | yes lt ↦ subst (λ o. IfSome o IsClear) e (h i None lt)
+  | no ge ↦ absurd (grind (arith, common_steps))
+]
 
-pub each_none : (P : Step → Type 0) (k : ℕ) → EachStep P (replicate k None)
-each_none P zero i t e = absurd (let z : ◌≡◌ {A = ℕ} 0 1 = cc in omega arith)
-each_none P (suc k) zero t e = absurd (let z : ◌≡◌ {A = ℕ} 0 1 = cc in omega arith)
-each_none P (suc k) (suc i) t e = each_none P k i t e
+-- there is a set of all that the steps give
+pub all_gives : (ts : List (Option Step)) → (g : ℕ) × ((i : ℕ) (t : Step) → get_or ts i None ≡ Some t → t.gives ⊆ g)
+all_gives [] = (0, λ i t e. cc)
+all_gives (None ∷ ts) = let (g, h) = all_gives ts in
+    (g, λ i. elim i as (λ i. (t : Step) → get_or (None ∷ ts) i None ≡ Some t → t.gives ⊆ g) [ zero ↦ (λ t e. cc) | suc j ↦ h j ])
+all_gives (Some u ∷ ts) = let (g, h) = all_gives ts in (
+  u.gives ∪ g,
+  λ i. elim i as (λ i. (t : Step) → get_or (Some u ∷ ts) i None ≡ Some t → t.gives ⊆ u.gives ∪ g) [
+    | zero ↦ (λ t e f. let q : u ≡ t = cc in omega (arith, bits, ap (λ (v : Step). bit v.gives f) q))
+    | suc j ↦ (λ t e. let y = h j t e in λ f. omega (arith, bits, y f))
+  ],
+)

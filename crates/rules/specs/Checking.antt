@@ -4,19 +4,19 @@ use Rattle.rules.specs.Steps.{Step}
 use Rattle.rules.specs.declared.check.PlanCheck.{PlanCheck}
 use Rattle.rules.specs.declared.check.PlanCheck.TheVariants.{IsPlan, StopsAt, Missing}
 use Rattle.rules.specs.Sets.{◌⊆◌, ◌∖◌}
-use Rattle.rules.specs.Planning.{Task, held, done, Plan, Walk}
+use Rattle.rules.specs.Planning.{Task, step_at, result_of, Plan, Walk}
 
 -- what the place holds can't be done in the standing s: it holds nothing, as every place above 63,
 -- or a step that lacks a need
 abbrev pub Undoable : Option Step → ℕ → Type 0
-Undoable o s = (o ≡ None) ⊎ ((t : Step) × (o ≡ Some t) × (t.needs ⊆ s → ⊥))
+Undoable o s = (o ≡ None) ⊎ ((t : Step) × (o ≡ Some t) × ¬ (t.needs ⊆ s))
 
 -- what the plan check says of the places l
 abbrev pub Checks : Task → List ℕ → PlanCheck → Type 0
 Checks p l IsPlan = Plan p l
 Checks p l (StopsAt i) =
     (i < length l)
-    × ((s : ℕ) × Walk p.steps p.standing (take i l) s × Undoable (held p (slice_index l i)) s)
+    × ((s : ℕ) × Walk p.steps p.standing (take i l) s × Undoable (step_at p (slice_index l i)) s)
 Checks p l (Missing m) = (0 < m) × ((s : ℕ) × Walk p.steps p.standing l s × (m ≡ p.order ∖ s))
 
 -- Only one answer fits a list of places.
@@ -25,4 +25,4 @@ ChecksOnce = (p : Task) (l : List ℕ) (c d : PlanCheck) → Checks p l c → Ch
 
 -- what a place holds can be done in the standing s, and leaves the standing s'
 abbrev pub Does : Option Step → ℕ → ℕ → Type 0
-Does o s s' = (t : Step) × (o ≡ Some t) × (t.needs ⊆ s) × (s' ≡ done t s)
+Does o s s' = (t : Step) × (o ≡ Some t) × (t.needs ⊆ s) × (s' ≡ result_of t s)

@@ -2,7 +2,7 @@
 use Rattle.std.specs.Prelude.{ℕ, [], ◌∷◌, replicate, Some, None, Option}
 use Rattle.rules.specs.Steps.{Step}
 use Rattle.rules.specs.Planning.{Task, Plan, strike, Blocked}
-use Rattle.rules.specs.Waivers.{Good, Group, Smallest, Hits}
+use Rattle.rules.specs.Waivers.{Good, Group, MinimumHittingSet, Hits}
 
 -- a place with a step
 abbrev pub place_with : ℕ → ℕ → ℕ → Option Step
@@ -30,6 +30,6 @@ pub record WorkedExamples : Type 0 where
   pub without_0_plan : Plan (strike C 0b0001) (1 ∷ 0 ∷ [])
   pub without_2_plan : Plan (strike C 0b0100) (0 ∷ [])
   pub group_0_2 : Group C 0b0101
-  pub met_by_2 : Smallest (0b0101 ∷ 0b1100 ∷ []) 0b0100
-  pub empty_unmet : (h : ℕ) → Hits (0b0101 ∷ 0 ∷ []) h → ⊥
-  pub hopeless : (x : ℕ) → Good Hopeless x → ⊥
+  pub met_by_2 : MinimumHittingSet (0b0101 ∷ 0b1100 ∷ []) 0b0100
+  pub empty_unmet : (h : ℕ) → ¬ Hits (0b0101 ∷ 0 ∷ []) h
+  pub hopeless : (x : ℕ) → ¬ Good Hopeless x

@@ -6,20 +6,20 @@ use Rattle.rules.specs.declared.refusal.Refusal.{Refusal}
 use Rattle.rules.specs.declared.refusal.Refusal.TheVariants.{Unopened, AlreadyOpen, SlipOut, FactCount, UnknownFact, GivesAndTakes, NoSuchPlace, PlaceTaken, PlaceEmpty, NeedMissing, WaivedFact, NoFinding, WrongSlip}
 
 -- the number of each refusal
-abbrev pub number : Refusal → ℕ
-number Unopened = 4
-number AlreadyOpen = 4
-number SlipOut = 5
-number FactCount = 6
-number UnknownFact = 7
-number GivesAndTakes = 8
-number NoSuchPlace = 9
-number PlaceTaken = 10
-number PlaceEmpty = 11
-number NeedMissing = 12
-number WaivedFact = 13
-number NoFinding = 14
-number WrongSlip = 15
+abbrev pub refusal_number : Refusal → ℕ
+refusal_number Unopened = 4
+refusal_number AlreadyOpen = 4
+refusal_number SlipOut = 5
+refusal_number FactCount = 6
+refusal_number UnknownFact = 7
+refusal_number GivesAndTakes = 8
+refusal_number NoSuchPlace = 9
+refusal_number PlaceTaken = 10
+refusal_number PlaceEmpty = 11
+refusal_number NeedMissing = 12
+refusal_number WaivedFact = 13
+refusal_number NoFinding = 14
+refusal_number WrongSlip = 15
 
 -- the byte that a report line shows for a layer
 abbrev pub layer_byte : Layer → ℕ
@@ -34,6 +34,6 @@ first_refusal (Ok u) r = r
 first_refusal (Err e) r = Err e
 
 -- what a call leaves: a refused one leaves all as it was
-abbrev pub after : {X E : Type 0} → Result Unit E → (X → X) → X → X
-after (Ok u) f k = f k
-after (Err e) f k = k
+abbrev pub unless_refused : {X E : Type 0} → Result Unit E → (X → X) → X → X
+unless_refused (Ok u) f k = f k
+unless_refused (Err e) f k = k

@@ -1,5 +1,6 @@
 -- Sets of facts. A set is a number: the digit of worth 2 ^ f is 1 where the fact f is in the set.
-use Rattle.std.specs.Prelude.{◌≡◌, ℕ, ◌+◌, ◌-◌, ◌/◌, ◌%◌, ◌^◌, ◌<◌, ◌≤◌, Bool, not, T, ◌⊎◌, ◌↔◌, ◌==◌, bit_and, bit_or, bit_xor, count_ones}
+use Rattle.std.specs.Prelude.{◌≡◌, ℕ, ◌+◌, ◌-◌, ◌/◌, ◌%◌, ◌^◌, ◌<◌, ◌≤◌, ◌==◌, ◌⊎◌, ◌↔◌}
+use Rattle.std.specs.Prelude.{Bool, IsTrue, not, bit_and, bit_or, bit_xor, count_ones}
 
 infix 50 ◌∈◌
 infix 50 ◌⊆◌
@@ -62,12 +63,12 @@ SetsMean =
     × ((a b : ℕ) → a ⊆ b → b ⊆ a → a ≡ b)
     × ((a b f : ℕ) → (f ∈ a ∪ b) ↔ ((f ∈ a) ⊎ (f ∈ b)))
     × ((a b f : ℕ) → (f ∈ a ∩ b) ↔ ((f ∈ a) × (f ∈ b)))
-    × ((a b f : ℕ) → (f ∈ a ∖ b) ↔ ((f ∈ a) × (f ∈ b → ⊥)))
+    × ((a b f : ℕ) → (f ∈ a ∖ b) ↔ ((f ∈ a) × ¬ (f ∈ b)))
     × ((f g : ℕ) → (f ∈ single g) ↔ (f ≡ g))
     × ((f n : ℕ) → (f ∈ below n) ↔ (f < n))
-    × ((f : ℕ) → f ∈ 0 → ⊥)
-    × ((a b : ℕ) → T (inside a b) ↔ (a ⊆ b))
-    × ((a b : ℕ) → (a ∩ b ≡ 0) ↔ (Meets a b → ⊥))
+    × ((f : ℕ) → ¬ (f ∈ 0))
+    × ((a b : ℕ) → IsTrue (inside a b) ↔ (a ⊆ b))
+    × ((a b : ℕ) → (a ∩ b ≡ 0) ↔ ¬ Meets a b)
 
 -- Counting facts: the empty set has none, a single fact counts 1, and sets that share no fact count
 -- apart.
@@ -75,4 +76,4 @@ abbrev pub SizesMean : Type 0
 SizesMean =
     (size 0 ≡ 0)
     × ((f : ℕ) → size (single f) ≡ 1)
-    × ((a b : ℕ) → (Meets a b → ⊥) → size (a ∪ b) ≡ size a + size b)
+    × ((a b : ℕ) → ¬ Meets a b → size (a ∪ b) ≡ size a + size b)

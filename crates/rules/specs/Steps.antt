@@ -1,5 +1,5 @@
 -- Licence steps: what they need, give and take, and when there is none of these sets.
-use Rattle.std.specs.Prelude.{◌≡◌, ℕ, cond, Ok, Err, Result, ◌==◌}
+use Rattle.std.specs.Prelude.{if◌then◌else◌, ◌≡◌, ℕ, Ok, Err, Result, ◌==◌}
 use Rattle.rules.specs.declared.refusal.Refusal.{Refusal}
 use Rattle.rules.specs.declared.refusal.Refusal.TheVariants.{GivesAndTakes}
 use Rattle.rules.specs.Sets.{◌∩◌}
@@ -20,4 +20,4 @@ IsClear t = t.gives ∩ t.takes ≡ 0
 
 -- why there is no step that gives and takes these sets: they share a fact
 abbrev pub step_refusal : ℕ → ℕ → Result Unit Refusal
-step_refusal gives takes = cond ((gives ∩ takes) == 0) (Ok tt) (Err GivesAndTakes)
+step_refusal gives takes = if (gives ∩ takes) == 0 then Ok tt else Err GivesAndTakes

@@ -1,7 +1,7 @@
 //! Sets of facts as masks: bit `f`, worth 2 to the power `f`, stands for the fact `f`.
 
-ghost use Rattle.std.specs.Prelude.{◌≡◌, ℕ, ◌<◌, ◌≤◌, min, not, T, ◌==◌};
-ghost use Rattle.rules.specs.Sets.{◌⊆◌, ◌∩◌, ◌∖◌, Meets, inside, below, single as only, size as size_of};
+ghost use Rattle.std.specs.Prelude.{◌≡◌, ◌↔◌, ◌<◌, ◌≤◌, IsTrue, min};
+ghost use Rattle.rules.specs.Sets.{◌⊆◌, ◌∖◌, Meets, inside, shares, below, single as only, size as size_of};
 
 /// A set of facts, of which there are at most 32.
 pub type Facts = u32;
@@ -16,17 +16,15 @@ pub fn difference(a: Facts, b: Facts) -> Facts
 /// Whether each fact of `a` is in `b`.
 pub fn is_subset(a: Facts, b: Facts) -> bool
     ensures test { result ≡ inside a b }
-    ensures holds { T result → a ⊆ b }
-    ensures fails { a ⊆ b → T result }
+    ensures says { IsTrue result ↔ (a ⊆ b) }
 {
     difference(a, b) == 0
 }
 
 /// Whether `a` and `b` share a fact.
 pub fn meets(a: Facts, b: Facts) -> bool
-    ensures test { result ≡ not ((a ∩ b) == 0) }
-    ensures holds { T result → Meets a b }
-    ensures fails { Meets a b → T result }
+    ensures test { result ≡ shares a b }
+    ensures says { IsTrue result ↔ Meets a b }
 {
     a & b != 0
 }

@@ -1,4 +1,5 @@
-//! The rules: sets of facts, licence steps, planning problems, and the theorems that the finder rests on.
+//! The rules: sets of facts, licence steps, planning problems, and the theorems that the finder
+//! rests on.
 
 #![tactic(auto)]
 

@@ -1,7 +1,7 @@
 //! Why a case refuses a call.
 
 ghost use Rattle.std.specs.Prelude.{◌≡◌};
-ghost use Rattle.rules.specs.Refusals.{number as number_of};
+ghost use Rattle.rules.specs.Refusals.{refusal_number};
 
 /// A refusal of a case. Where several apply, the one with the lowest number is given.
 #[derive(Clone, Copy, PartialEq, Eq, Debug)]
@@ -37,9 +37,9 @@ pub enum Refusal {
 impl Refusal {
     /// The refusal's number in report lines.
     pub fn number(self) -> u8
-        ensures { result ≡ number_of self }
+        ensures { result ≡ refusal_number self }
     {
-        // Kept: two refusals share a number, so it can't be a discriminant.
+        // Two refusals share a number, so it can't be a discriminant.
         match self {
             Refusal::Unopened => 4,
             Refusal::AlreadyOpen => 4,

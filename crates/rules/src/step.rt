@@ -3,13 +3,14 @@
 ghost use Rattle.std.specs.Prelude.{◌≡◌, ℕ, Ok, Err, IfOk, IfErr};
 ghost use Rattle.rules.specs.Sets.{inside};
 ghost use Rattle.rules.specs.Steps.{step_of, step_refusal};
-ghost use Rattle.rules.specs.Planning.{done, step_without};
+ghost use Rattle.rules.specs.Planning.{result_of, step_without};
 
 use crate::facts::{Facts, difference, is_subset, meets};
 use crate::refusal::Refusal;
 use std::marker::Model;
 
-/// A licence step: it can be done where all its needs stand; then its takes go, and its gives stand.
+/// A licence step: it can be done where all its needs stand; then its takes go, and its gives
+/// stand.
 ///
 /// There is no step that gives a fact that it takes.
 #[derive(Clone, Copy, PartialEq, Eq, Default, Debug)]
@@ -35,7 +36,8 @@ impl Model for Step {
 
 impl Step {
     /// The step of these sets. Refused: `GivesAndTakes`, where gives and takes share a fact.
-    // Put makes it once the facts of its sets are known and before it looks at the place: so its refusal comes between theirs.
+    // Put makes it once the facts of its sets are known and before it looks at the place: so its
+    // refusal comes between theirs.
     pub fn new(needs: Facts, gives: Facts, takes: Facts) -> Result<Step, Refusal>
         ensures made { IfOk result (λ t. t ≡ step_of needs gives takes) }
         ensures clear { IfOk result (λ _. step_refusal gives takes ≡ Ok tt) }
@@ -60,7 +62,7 @@ impl Step {
 
     /// The standing after the step is done.
     pub fn result(&self, standing: Facts) -> Facts
-        ensures { result ≡ done self.now standing }
+        ensures { result ≡ result_of self.now standing }
     {
         difference(standing, self.takes) | self.gives
     }

@@ -1,11 +1,12 @@
 //! The 64 step places of a case.
 
-ghost use Rattle.std.specs.Prelude.{◌≡◌, ℕ, length, Some, None, slice_index_or};
-ghost use Rattle.rules.specs.Steps.{Step as TheStep, IsClear};
+ghost use Rattle.std.specs.Prelude.{◌≡◌, length, replicate, Some, None, slice_index_or, slice_set};
+ghost use Rattle.rules.specs.Refusals.{unless_refused};
+ghost use Rattle.rules.specs.Places.{AllClear, put_refusal, clear_refusal};
 
+use crate::refusal::Refusal;
 use crate::step::Step;
-
-mod places;
+use std::marker::Model;
 
 /// As many places as a case has.
 pub const PLACES: u8 = 64;
@@ -14,6 +15,76 @@ pub const PLACES: u8 = 64;
 #[derive(Drop)]
 pub struct StepTable {
     places: [Option<Step>; 64],
-    ghost count: { length places ≡ 64 },
-    ghost consistent: { (i : ℕ) (t : TheStep) → slice_index_or places i None ≡ Some t → IsClear t },
+}
+
+impl Model for StepTable {
+    ghost use Rattle.std.specs.Prelude.{◌≡◌, List, Option, length};
+    ghost use Rattle.rules.specs.Steps.{Step as TheStep};
+    ghost use Rattle.rules.specs.Places.{AllClear};
+
+    ghost Value = { List (Option TheStep) };
+
+    ghost view = { λ t. t.places };
+
+    ghost invariant = { λ t. (length t.places ≡ 64) × AllClear t.places };
+}
+
+impl StepTable {
+    /// A table of empty places.
+    pub fn new() -> StepTable
+        ensures { result ≡ replicate 64 None }
+    {
+        StepTable { places: [None; 64] }
+    }
+
+    /// What each place holds.
+    pub fn places(&self) -> &[Option<Step>]
+        ensures same { result.now ≡ self.now }
+        ensures count { length result.now ≡ 64 }
+        ensures clear { AllClear result.now }
+    {
+        &self.places
+    }
+
+    /// The step at a place, if there is one.
+    pub fn get(&self, place: u8) -> Option<Step>
+        ensures { result ≡ slice_index_or self.now place None }
+    {
+        *self.places.get(usize::from(place))?
+    }
+
+    /// Fills an empty place. The other 63 places keep their steps. Refused: `NoSuchPlace`,
+    /// `PlaceTaken`.
+    pub fn put(&mut self, place: u8, step: Step) -> Result<(), Refusal>
+        ensures answer { result ≡ put_refusal self.old place }
+        ensures after { self.new
+            ≡ unless_refused result (λ ts. slice_set ts place (Some step)) self.old }
+    {
+        // that the step gives nothing that it takes is known once it is opened
+        let _ = &step.gives;
+        if place >= PLACES {
+            return Err(Refusal::NoSuchPlace);
+        }
+        if self.get(place).is_some() {
+            return Err(Refusal::PlaceTaken);
+        }
+        self.places[usize::from(place)] = Some(step);
+        Ok(())
+    }
+
+    /// Empties a place that holds a step. The other 63 places keep their steps. Refused:
+    /// `NoSuchPlace`, `PlaceEmpty`.
+    pub fn clear(&mut self, place: u8) -> Result<(), Refusal>
+        ensures answer { result ≡ clear_refusal self.old place }
+        ensures after { self.new ≡ unless_refused result (λ ts. slice_set ts place None) self.old }
+    {
+        if place >= PLACES {
+            return Err(Refusal::NoSuchPlace);
+        }
+        if self.get(place).is_none() {
+            return Err(Refusal::PlaceEmpty);
+        }
+        self.places[usize::from(place)] = None;
+        Ok(())
+    }
 }

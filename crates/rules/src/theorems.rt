@@ -13,7 +13,8 @@ pub fn sets_mean_their_facts()
     ensures sizes { SizesMean }
 {}
 
-/// Striking out more, standing more, ordering less or an additional step never blocks, and doing a step never unblocks.
+/// Striking out more, standing more, ordering less or an additional step never blocks, and doing a
+/// step never unblocks.
 pub fn more_never_blocks()
     ensures striking { StrikingMore }
     ensures standing { StandingMore }
@@ -23,7 +24,7 @@ pub fn more_never_blocks()
     ensures doing { Doing }
 {}
 
-/// Good sets meet groups, and so a smallest set that meets groups is no larger than any good set.
+/// Good sets meet groups, and so a minimum hitting set of groups is no larger than any good set.
 pub fn good_sets_meet_groups()
     ensures duality { Duality }
     ensures hitting { Hitting }
@@ -41,7 +42,8 @@ pub fn listings_find_what_is_reached()
     ensures ends { ListingEnds }
 {}
 
-/// Plans are walks that end with the order standing, and whether there is one is decided by the forward listing.
+/// Plans are walks that end with the order standing, and whether there is one is decided by the
+/// forward listing.
 pub fn plans_are_decided()
     ensures walk { PlansWalk }
     ensures forward { ForwardWalks }

@@ -2,7 +2,7 @@
 pub mod Faults
 pub mod Known
 pub mod Changes
-pub mod Growing
+pub mod NewGroup
 pub mod Noting
 pub mod Searching
 pub mod Wiping

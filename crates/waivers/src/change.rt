@@ -1,8 +1,7 @@
 //! The calls that only change what is planned over.
 
 ghost use Rattle.std.specs.Prelude.{◌≡◌};
-ghost use Rattle.rules.specs.Planning.{task};
-ghost use Rattle.rules.specs.Refusals.{after};
+ghost use Rattle.rules.specs.Refusals.{unless_refused};
 ghost use Rattle.waivers.specs.Changes.{names_refusal, refusal_of, task_after, fate_of};
 
 use rules::{Facts, PLACES, Problem, Refusal, Step, difference, facts_below, is_subset, meets};
@@ -44,7 +43,7 @@ pub(crate) enum Fate {
 
 /// Refuses a set that names a fact at or above the number of facts.
 pub(crate) fn check_names(problem: &Problem, set: Facts) -> Result<(), Refusal>
-    ensures { result ≡ names_refusal (task problem.now) «set» }
+    ensures { result ≡ names_refusal problem.now «set» }
 {
     if is_subset(set, facts_below(problem.n)) {
         Ok(())
@@ -55,9 +54,9 @@ pub(crate) fn check_names(problem: &Problem, set: Facts) -> Result<(), Refusal>
 
 /// Adds facts to the standing.
 fn grant(problem: &mut Problem, set: Facts) -> Result<(), Refusal>
-    ensures answer { result ≡ refusal_of (task problem.old) (Change.Grant «set») }
-    ensures after { task problem.new
-        ≡ after result (task_after (Change.Grant «set»)) (task problem.old) }
+    ensures answer { result ≡ refusal_of problem.old (Change.Grant «set») }
+    ensures after { problem.new
+        ≡ unless_refused result (task_after (Change.Grant «set»)) problem.old }
 {
     check_names(problem, set)?;
     problem.standing.facts |= set;
@@ -66,9 +65,9 @@ fn grant(problem: &mut Problem, set: Facts) -> Result<(), Refusal>
 
 /// Removes facts from the standing.
 fn lapse(problem: &mut Problem, set: Facts) -> Result<(), Refusal>
-    ensures answer { result ≡ refusal_of (task problem.old) (Change.Lapse «set») }
-    ensures after { task problem.new
-        ≡ after result (task_after (Change.Lapse «set»)) (task problem.old) }
+    ensures answer { result ≡ refusal_of problem.old (Change.Lapse «set») }
+    ensures after { problem.new
+        ≡ unless_refused result (task_after (Change.Lapse «set»)) problem.old }
 {
     check_names(problem, set)?;
     problem.standing.facts = difference(problem.standing.facts, set);
@@ -83,9 +82,9 @@ fn put(
     gives: Facts,
     takes: Facts,
 ) -> Result<(), Refusal>
-    ensures answer { result ≡ refusal_of (task problem.old) (Change.Put place needs gives takes) }
-    ensures after { task problem.new
-        ≡ after result (task_after (Change.Put place needs gives takes)) (task problem.old) }
+    ensures answer { result ≡ refusal_of problem.old (Change.Put place needs gives takes) }
+    ensures after { problem.new
+        ≡ unless_refused result (task_after (Change.Put place needs gives takes)) problem.old }
 {
     check_names(problem, needs | gives | takes)?;
     let step = Step::new(needs, gives, takes)?;
@@ -94,18 +93,18 @@ fn put(
 
 /// Empties a place.
 fn withdraw(problem: &mut Problem, place: u8) -> Result<(), Refusal>
-    ensures answer { result ≡ refusal_of (task problem.old) (Change.Withdraw place) }
-    ensures after { task problem.new
-        ≡ after result (task_after (Change.Withdraw place)) (task problem.old) }
+    ensures answer { result ≡ refusal_of problem.old (Change.Withdraw place) }
+    ensures after { problem.new
+        ≡ unless_refused result (task_after (Change.Withdraw place)) problem.old }
 {
     problem.table.clear(place)
 }
 
 /// Does a step for good.
 fn carry(problem: &mut Problem, place: u8) -> Result<(), Refusal>
-    ensures answer { result ≡ refusal_of (task problem.old) (Change.Carry place) }
-    ensures after { task problem.new
-        ≡ after result (task_after (Change.Carry place)) (task problem.old) }
+    ensures answer { result ≡ refusal_of problem.old (Change.Carry place) }
+    ensures after { problem.new
+        ≡ unless_refused result (task_after (Change.Carry place)) problem.old }
 {
     if place >= PLACES {
         return Err(Refusal::NoSuchPlace);
@@ -123,9 +122,9 @@ fn carry(problem: &mut Problem, place: u8) -> Result<(), Refusal>
 
 /// Adds facts to the order.
 fn order(problem: &mut Problem, set: Facts) -> Result<(), Refusal>
-    ensures answer { result ≡ refusal_of (task problem.old) (Change.Order «set») }
-    ensures after { task problem.new
-        ≡ after result (task_after (Change.Order «set»)) (task problem.old) }
+    ensures answer { result ≡ refusal_of problem.old (Change.Order «set») }
+    ensures after { problem.new
+        ≡ unless_refused result (task_after (Change.Order «set»)) problem.old }
 {
     check_names(problem, set)?;
     if meets(set, problem.waived) {
@@ -137,9 +136,9 @@ fn order(problem: &mut Problem, set: Facts) -> Result<(), Refusal>
 
 /// Removes facts from the order.
 fn cancel(problem: &mut Problem, set: Facts) -> Result<(), Refusal>
-    ensures answer { result ≡ refusal_of (task problem.old) (Change.Cancel «set») }
-    ensures after { task problem.new
-        ≡ after result (task_after (Change.Cancel «set»)) (task problem.old) }
+    ensures answer { result ≡ refusal_of problem.old (Change.Cancel «set») }
+    ensures after { problem.new
+        ≡ unless_refused result (task_after (Change.Cancel «set»)) problem.old }
 {
     check_names(problem, set)?;
     problem.order = difference(problem.order, set);
@@ -149,8 +148,8 @@ fn cancel(problem: &mut Problem, set: Facts) -> Result<(), Refusal>
 impl Change {
     /// Makes the change of a problem, or refuses it.
     pub(crate) fn make(self, problem: &mut Problem) -> Result<(), Refusal>
-        ensures answer { result ≡ refusal_of (task problem.old) self }
-        ensures after { task problem.new ≡ after result (task_after self) (task problem.old) }
+        ensures answer { result ≡ refusal_of problem.old self }
+        ensures after { problem.new ≡ unless_refused result (task_after self) problem.old }
     {
         match self {
             Change::Grant(set) => grant(problem, set),

@@ -2,7 +2,7 @@
 
 ghost use Rattle.std.specs.Prelude.{◌≡◌};
 ghost use Rattle.waivers.specs.declared.fault.FinderFault.TheVariants.{Case as OfCase, Size as OfSize, Decider as OfDecider};
-ghost use Rattle.waivers.specs.Faults.{number as number_of, layer as layer_of};
+ghost use Rattle.waivers.specs.Faults.{finder_number, finder_layer};
 
 use deciders::{DeciderFault, SizeFault};
 use rules::{Facts, Layer, Refusal};
@@ -25,9 +25,9 @@ pub enum FinderFault {
 impl FinderFault {
     /// The fault's number in report lines.
     pub fn number(self) -> u8
-        ensures { result ≡ number_of self }
+        ensures { result ≡ finder_number self }
     {
-        // Kept: a variant that holds a value has no discriminant to cast.
+        // A variant that holds a value has no discriminant to cast.
         match self {
             FinderFault::Case(refusal) => refusal.number(),
             FinderFault::Size(fault) => fault.number(),
@@ -39,7 +39,7 @@ impl FinderFault {
 
     /// The layer that the fault comes from.
     pub fn layer(self) -> Layer
-        ensures { result ≡ layer_of self }
+        ensures { result ≡ finder_layer self }
     {
         match self {
             FinderFault::Case(_) => Layer::Case,
@@ -50,7 +50,7 @@ impl FinderFault {
     }
 }
 
-// Kept: by hand, here and below, since the contracts say which fault a `?` makes, and a derive would not.
+// By hand, here and below, since the contracts say which fault a `?` makes, and a derive would not.
 impl From<DeciderFault> for FinderFault {
     ghost from_gives = { λ e r. r ≡ OfDecider e };
 

@@ -1,7 +1,7 @@
 //! Taking facts out of every group of a list.
 
 ghost use Rattle.std.specs.Prelude.{◌≡◌, ℕ, ◌≤◌, length, vec_len, vec_capacity};
-ghost use Rattle.waivers.specs.Changes.{losing};
+ghost use Rattle.waivers.specs.Changes.{groups_without};
 
 use crate::known::MAX_GROUPS;
 use arrayvec::ArrayVec;
@@ -10,7 +10,7 @@ use rules::{Facts, difference};
 /// The groups without the facts of `set`; one that equals an earlier one then is left out.
 fn without(groups: &[Facts], set: Facts) -> ArrayVec<Facts, MAX_GROUPS>
     requires { length groups.now ≤ 64 }
-    ensures { result.items ≡ losing set groups.now }
+    ensures { result.items ≡ groups_without set groups.now }
 {
     let mut left = ArrayVec::new();
     for group in groups {
@@ -25,7 +25,7 @@ fn without(groups: &[Facts], set: Facts) -> ArrayVec<Facts, MAX_GROUPS>
 /// Takes the facts of `set` out of each group; a group that equals an earlier one then is left out.
 pub(crate) fn lose(groups: &mut Vec<Facts>, set: Facts)
     requires { vec_len groups.old ≤ 64 }
-    ensures items { groups.new.items ≡ losing set groups.old.items }
+    ensures items { groups.new.items ≡ groups_without set groups.old.items }
     ensures room { vec_capacity groups.new ≡ vec_capacity groups.old }
 {
     let left = without(groups, set);

@@ -6,7 +6,7 @@ ghost use Rattle.waivers.specs.Wiping.{zero_rows, wiped_book};
 use deciders::Row;
 
 /// What stands in a place of the plan book past the plan.
-// Kept: a byte a place, so no Option: a rule of the project.
+// A byte a place, so no Option: a rule of the project.
 const NO_PLACE: u8 = 255;
 
 /// Sets every row to zero.

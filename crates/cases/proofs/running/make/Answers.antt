@@ -1,12 +1,11 @@
 use Rattle.std.proofs.Common.{ap, sym, subst, refl, ◌∙◌, vec_items}
 use Rattle.std.specs.Vec.{with_items}
-use Rattle.waivers.proofs.Keep.{listed}
 use Rattle.cases.specs.declared.call.Answer.TheVariants.{Done, Found, Drawn}
 use Rattle.cases.specs.Plain.{Plain}
 use Rattle.cases.specs.Calls.{Opening, Changing, Finding, Drawing, Signing, Tearing, entry_of}
+use Rattle.cases.specs.Refusing.{call_refusal}
 use Rattle.cases.specs.Slips.{InHand}
-use Rattle.cases.specs.View.{view}
-use Rattle.cases.proofs.Keeping.{keeps}
+use Rattle.cases.proofs.Keeping.{finds_keep}
 use Rattle.cases.proofs.Staying.{hand_stays}
 use Rattle.cases.proofs.Recording.{found_in}
 use Rattle.cases.proofs.running.make.Goals as goal
@@ -32,7 +31,7 @@ returns-in-Find-clause-makes g c =
       },
       ap (λ y. entry_of y (Found f.result (with_items s f.new.sheet) (with_items b f.new.book))) c.in-Find.is,
       (
-        found_in (g.P.Picker.choice c.args.picker.now) (g.D.Decider.reach c.args.decider.now) g.D.Decider.MARK (view c.args.case.now) (view f.new.self)
+        found_in (g.P.Picker.choice c.args.picker.now) (g.D.Decider.reach c.args.decider.now) g.D.Decider.MARK c.args.case.now f.new.self
             f.result s b c.as_mut_slice.result.now f.new.sheet c.as_mut_slice-in-Find.result.now f.new.book
             c.as_mut_slice.ensures.value c.as_mut_slice-in-Find.ensures.value
             (f.auto.sheet ∙ c.as_mut_slice.ensures.len) (f.auto.book ∙ c.as_mut_slice-in-Find.ensures.len) f.ensures.finds,
@@ -44,9 +43,10 @@ pub returns-in-Find-clause-in_hand : goal.returns-in-Find-clause-in_hand
 unfolding returns-in-Find-clause-makes
 returns-in-Find-clause-in_hand g c =
     let (e, is, makes) = returns-in-Find-clause-makes g c in
-    let kept = keeps (g.P.Picker.choice c.args.picker.now) (g.D.Decider.reach c.args.decider.now) g.D.Decider.MARK (view c.args.case.now)
-    (view c.find-result.new.self) (listed c.args.case.now.known) e.asked e.answered makes in
-    subst (λ (p : Plain). InHand p c.args.in_hand) (sym kept.state) (hand_stays (view c.args.case.now).plain e.asked e.answered c.args.in_hand refl c.requires)
+    let k = c.args.case.now in
+    let kept = finds_keep (g.P.Picker.choice c.args.picker.now) (g.D.Decider.reach c.args.decider.now) g.D.Decider.MARK k
+    c.find-result.new.self (vec_items c.in-Find.sheet) (vec_items c.in-Find.book) e.answered (call_refusal k.plain e.asked) refl makes.0 makes in
+    subst (λ (p : Plain). InHand p c.args.in_hand) (sym kept.state) (hand_stays k.plain e.asked e.answered c.args.in_hand refl c.requires)
 
 pub returns-in-Draw-clause-makes : goal.returns-in-Draw-clause-makes
 returns-in-Draw-clause-makes g c =

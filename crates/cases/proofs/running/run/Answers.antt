@@ -3,15 +3,14 @@ use Rattle.std.proofs.lemmas.Iterator.Adapters.{YieldsList-from_vec}
 use Rattle.std.proofs.lemmas.Iterator.Consumers.{YieldsList-end}
 use Rattle.waivers.proofs.Largest.{same_self, same_on}
 use Rattle.cases.specs.Calls.{Recorded}
-use Rattle.cases.specs.View.{view}
 use Rattle.cases.proofs.Recording.{recorded_length, running_first, running_next}
 use Rattle.cases.proofs.Keeping.{calls_keep}
 use Rattle.cases.proofs.running.run.Goals as goal
 
 pub loop-call-init : goal.loop-call-init
 loop-call-init g c = record {
-  running = running_first (g.P.Picker.choice c.args.picker.now) g.D.Decider.reach g.D.Decider.MARK c.args.decider.now (view c.in-Ok-Ok.case)
-      (vec_items c.in-Ok-Ok.answers) _ c.in-Ok-Ok.ensures.fresh c.in-Ok-Ok.ensures'.items refl (same_self (g.D.Decider.reach c.args.decider.now));
+  running = running_first (g.P.Picker.choice c.args.picker.now) g.D.Decider.reach g.D.Decider.MARK c.args.decider.now c.in-Ok-Ok.case
+      (vec_items c.in-Ok-Ok.answers) _ c.in-Ok-Ok.ensures c.in-Ok-Ok.ensures'.items refl (same_self (g.D.Decider.reach c.args.decider.now));
   room = omega (arith, c.into_iter-call-iterator.ensures.into_iter_gives.1, c.in-Ok-Ok.ensures'.capacity, c.len.ensures);
 }
 
@@ -24,7 +23,7 @@ loop-call-preserved g c =
     let made = c.make-answer in
     record {
       running = running_next (g.P.Picker.choice c.args.picker.now) g.D.Decider.reach g.D.Decider.MARK c.args.decider.now l.yielded (vec_items l.answers)
-          (vec_items c.push_reserved.new.self) l.decider made.new.decider (view l.case) (view made.new.case) l.slip made.result.1 c.in-Some.call made.result.0
+          (vec_items c.push_reserved.new.self) l.decider made.new.decider l.case made.new.case l.slip made.result.1 c.in-Some.call made.result.0
           l.invariant.running made.ensures.makes made.ensures.same
           (same_on (g.D.Decider.reach c.args.decider.now) (g.D.Decider.reach l.decider) (g.D.Decider.reach made.new.decider) l.invariant.running.same made.ensures.same)
           made.ensures.in_hand c.push_reserved.ensures.items;
@@ -44,5 +43,5 @@ returns-clause-law g c =
     c.loop-call.yielded c.loop-call.call-iterator c.loop-call.yielded_by c.next.result c.next.new.self c.in-None.is c.next.ensures.steps).0 in (
       r.entries,
       subst (λ xs. Recorded xs c.loop-call.answers.items r.entries) all r.recorded,
-      calls_keep g.D.Decider.reach g.D.Decider.MARK (g.P.Picker.choice c.args.picker.now) c.args.decider.now r.entries c.loop-call.decider (view c.loop-call.case) r.made,
+      calls_keep g.D.Decider.reach g.D.Decider.MARK (g.P.Picker.choice c.args.picker.now) c.args.decider.now r.entries c.loop-call.decider c.loop-call.case r.made,
     )

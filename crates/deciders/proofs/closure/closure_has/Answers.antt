@@ -1,4 +1,5 @@
-use Rattle.std.proofs.Common.{T, length, refl, subst, arith}
+use Rattle.std.proofs.Common.{length, refl, sym, ◌∙◌, arith}
+use Rattle.std.proofs.lemmas.Bool.{false≢true}
 use Rattle.rules.proofs.Sets.{sub_le}
 use Rattle.deciders.proofs.Closures.{closing_more, closing_rises, closing_out, closure_exists, inside_closure, outside_closure}
 use Rattle.deciders.proofs.closure.closure_has.Goals as goal
@@ -20,10 +21,10 @@ returns-then-more-all c =
     let ts = c.args.places.now in
     let closure =
     closing_out ts c.args.standing (length ts) c.loop-more.all c.round-more.result (omega arith) c.loop-more.invariant c.round-more.ensures c.if-more-all.true in
-    let out = outside_closure ts c.args.standing c.args.facts c.loop-more.all closure (λ sub. subst T c.loop-more-test.true (c.is_subset.ensures.fails sub)) in
+    let out = outside_closure ts c.args.standing c.args.facts c.loop-more.all closure (λ sub. false≢true (sym c.loop-more-test.true ∙ c.is_subset.ensures.says.1 sub)) in
     ((λ h. cc), λ h. absurd (out h))
 
 pub returns : goal.returns
 returns c =
-    let sub = c.loop-more-test.ensures.holds tt in
+    let sub = c.loop-more-test.ensures.says.0 refl in
     ((λ h. inside_closure c.args.places.now c.args.standing c.args.facts c.loop-more.all c.loop-more.invariant sub), λ h. refl)

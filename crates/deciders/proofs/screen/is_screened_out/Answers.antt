@@ -1,7 +1,8 @@
-use Rattle.rules.specs.Planning.{task}
+use Rattle.rules.specs.contracts.problem.Problem.{the_view}
 use Rattle.deciders.proofs.Closures.{struck_screens_out}
 use Rattle.deciders.proofs.screen.is_screened_out.Goals as goal
 
 pub returns : goal.returns
 returns c =
-    struck_screens_out (task c.args.problem.now) c.args.strike c.closure_has.result (rw c.places.ensures.same at c.closure_has.ensures)
+    let closed = rw c.places.ensures.same at c.closure_has.ensures in
+    rw (← c.problem.view_is) (struck_screens_out (the_view c.problem.inside) c.args.strike c.closure_has.result closed)

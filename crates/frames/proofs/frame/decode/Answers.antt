@@ -1,5 +1,5 @@
-use Rattle.std.proofs.Common.{◌+◌, ◌*◌, ◌/◌, [], ◌∷◌, ◌++◌, length, get_or, arith, rules}
-use Rattle.frames.specs.Digits.{Pair}
+use Rattle.std.proofs.Common.{◌/◌, [], ◌∷◌, ◌++◌, length, get_or, arith, rules}
+use Rattle.frames.specs.Digits.{PairAt}
 use Rattle.frames.proofs.Decoding.{pair_at, held_more, held_full}
 use Rattle.frames.proofs.frame.decode.Goals as goal
 use Rattle.frames.proofs.frame.decode.Goals.{then-not-is_full, else-not-is_full}
@@ -21,7 +21,7 @@ loop-high-preserved c =
     let held = c.loop-high.bytes.items in
     let so_far = c.loop-high.invariant.1 in
     let at = pair_at line c.as_chunks.result.0.now (length line / 2) i c.as_chunks.ensures.front (omega arith) in
-    let pair : Pair (get_or line (2 * i) 0) (get_or line (2 * i + 1) 0) byte = rw (at.0, at.1) at c.in_ok-byte.ensures in
+    let pair : PairAt line i byte = rw (at.0, at.1) at c.in_ok-byte.ensures in
     elim c.if-not-is_full.branch [
       | then-not-is_full w ↦ (bytes ++ byte ∷ [], rw w.bytes-is (rw w.push.ensures.items (held_more line bytes held i byte so_far pair (search rules))))
       | else-not-is_full w ↦ (bytes ++ byte ∷ [], rw w.bytes-is (held_full line bytes held i byte so_far pair (search rules)))

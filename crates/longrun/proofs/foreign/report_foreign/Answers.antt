@@ -1,20 +1,11 @@
-use Rattle.std.proofs.Common.{◌≡◌, Ok, Result, sym, ap, ◌∙◌, subst}
-use Rattle.rules.specs.declared.refusal.Refusal.{Refusal}
-use Rattle.cases.specs.declared.slip.Slip.{Slip}
-use Rattle.cases.specs.Calls.{Signing}
-use Rattle.cases.specs.Refusing.{case_refusal}
-use Rattle.cases.specs.Slips.{content_of, drawn_content, decision_of}
-use Rattle.cases.specs.View.{view}
-use Rattle.cases.specs.Making.{Draws}
-use Rattle.cases.proofs.Refused.{made_refused, drawn_taken}
+use Rattle.std.proofs.Common.{sym, subst}
+use Rattle.cases.specs.Slips.{Accepts}
+use Rattle.std.proofs.lemmas.Bool.{false≢true}
 use Rattle.longrun.proofs.foreign.report_foreign.Goals as goal
 
 -- what was drawn of a case and came back from another is the slip that it takes
 pub unreachable-requires : goal.unreachable-requires
 unreachable-requires c =
-    let own = view c.draw.new.self in
-    let drawn = subst (λ (r : Result Slip Refusal). Draws (view c.in_ok-own.own) (drawn_content r) own) c.in-Ok.is c.draw.ensures in
-    let taken = drawn_taken (view c.in_ok-own.own) own (content_of c.in-Ok.slip) drawn in
-    let back = subst (λ (s : Slip). case_refusal own.plain (Signing (content_of s)) ≡ Ok tt) (sym c.in-Err-brought.ensures.back) taken in
-    let refused = sym (ap decision_of c.in_default-signed.is) ∙ c.sign-signed.ensures.signs.does.answer ∙ back in
-    made_refused tt c.in_default-signed.field-0.1 refused
+    let own = c.draw.new.self in
+    let back = subst (Accepts own.plain) (sym c.in-Err-brought.ensures.back) c.in-Ok.ensures.accepted in
+    false≢true (rw c.in_default-signed.is at (c.sign-signed.ensures.accepted back))

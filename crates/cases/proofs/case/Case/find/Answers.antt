@@ -1,8 +1,8 @@
-use Rattle.waivers.proofs.Keep.{listed}
+use Rattle.std.proofs.Common.{rules}
 use Rattle.cases.proofs.case.Case.find.Goals as goal
 
-pub returns-in_err-check_usable-clause-listed : goal.returns-in_err-check_usable-clause-listed
-returns-in_err-check_usable-clause-listed g c = listed c.args.self.now.known
+pub returns-in-Ok-clause-finds : goal.returns-in-Ok-clause-finds
+returns-in-Ok-clause-finds g c = rw (← c.self.view_is) (search rules)
 
-pub returns-in_err-check_sizes-clause-listed : goal.returns-in_err-check_sizes-clause-listed
-returns-in_err-check_sizes-clause-listed g c = listed c.args.self.now.known
+pub returns-in-Err-clause-finds : goal.returns-in-Err-clause-finds
+returns-in-Err-clause-finds g c = rw (← c.self.view_is) (search rules)

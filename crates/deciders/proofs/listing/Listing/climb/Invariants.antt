@@ -1,5 +1,5 @@
 use Rattle.std.proofs.Common.{◌≡◌, ◌+◌, ◌≤◌, take, drop}
-use Rattle.deciders.specs.Rows.{Climbs}
+use Rattle.deciders.specs.Search.Rows.{Climbs}
 use Rattle.deciders.proofs.listing.Listing.climb.Given as goal
 
 abbrev pub invariant-loop-count : goal.invariant-loop-count

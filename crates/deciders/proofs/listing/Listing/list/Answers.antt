@@ -1,14 +1,14 @@
-use Rattle.std.proofs.Common.{◌∙◌}
+use Rattle.std.proofs.Common.{refl, ◌∙◌}
 use Rattle.std.proofs.lemmas.Result.{err_from_is_err_and}
 use Rattle.deciders.proofs.Sheets.{start_goal, turn_more, turn_goal, turn_full}
 use Rattle.deciders.proofs.listing.Listing.list.Goals as goal
 
-pub returns-then-is_wanted-clause-lists : goal.returns-then-is_wanted-clause-lists
-returns-then-is_wanted-clause-lists g c =
+pub returns-then-is_goal-clause-lists : goal.returns-then-is_goal-clause-lists
+returns-then-is_goal-clause-lists g c =
     let s = c.args.self.now in
     rw (c.in_ok-add.ensures.rows, c.in_ok-add.ensures.count, c.in_ok-add.ensures.number.0, c.requires.none, c.start-start.ensures)
-    (start_goal g.D.Direction.makes (g.D.Direction.wants c.args.struck.now) c.args.struck.now.actions.items (g.D.Direction.start_of c.args.struck.now) _ _ s.rows.now c.requires.some
-    (rw c.start-start.ensures at (c.if-is_wanted.ensures.holds tt)))
+    (start_goal g.D.Direction.successor_of (g.D.Direction.goal c.args.struck.now) c.args.struck.now.actions.items (g.D.Direction.start_of c.args.struck.now) _ _ s.rows.now c.requires.some
+    (rw c.start-start.ensures at (c.if-is_goal.ensures.0 refl)))
 
 pub returns-in_err-row-clause-lists : goal.returns-in_err-row-clause-lists
 returns-in_err-row-clause-lists g c =

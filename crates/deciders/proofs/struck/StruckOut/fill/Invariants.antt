@@ -8,5 +8,5 @@ invariant-loop-place l = record {
   standing : l.self.standing ≡ l.initial.self.standing;
   order : l.self.order ≡ l.initial.self.order;
   few : array_vec_len l.self.actions ≤ l.place;
-  same : l.self.actions.items ++ actions_from l.gone l.held-items l.place ≡ actions_from l.gone l.held-items 0;
+  same : l.self.actions.items ++ actions_from l.gone l.content-items l.place ≡ actions_from l.gone l.content-items 0;
 }

@@ -1,7 +1,8 @@
-use Rattle.std.proofs.Common.{refl}
+use Rattle.std.proofs.Common.{None, refl}
+use Rattle.std.specs.Prelude.{IfSome}
+use Rattle.std.proofs.lemmas.List.Elements.{All-replicate}
 use Rattle.rules.specs.Steps.{IsClear}
-use Rattle.rules.proofs.Tables.{each_none}
 use Rattle.rules.proofs.table.StepTable.new.Goals as goal
 
 pub invariant_of-result : goal.invariant_of-result
-invariant_of-result c = record { count = refl; consistent = each_none IsClear 64 }
+invariant_of-result c = (refl, All-replicate (λ o. IfSome o IsClear) 64 None tt)
