@@ -26,7 +26,7 @@ pub enum Reply {
 
 /// What a line is answered, and the kind that its report shows.
 #[derive(Clone, Copy)]
-pub(crate) struct Answer {
+pub(crate) struct LineAnswer {
     kind: u8,
     reply: Result<Reply, LineFault>,
 }
@@ -89,7 +89,7 @@ impl<D: Decider, P: Picker> Desk<'_, D, P> {
     }
 
     /// Makes the call that a line asks for.
-    pub(crate) fn ask(&mut self, line: &[u8]) -> Answer
+    pub(crate) fn ask(&mut self, line: &[u8]) -> LineAnswer
         ensures same { KeepsLoans self.old self.new }
         ensures reach { KeepsReach D.reach self.old self.new }
         ensures asks { AsksAt P.choice D.reach D.MARK line.now result.kind
@@ -97,11 +97,11 @@ impl<D: Decider, P: Picker> Desk<'_, D, P> {
         ensures fits { Fits result.reply self.new.book.now }
     {
         match read_frame(line) {
-            Ok(frame) => Answer {
+            Ok(frame) => LineAnswer {
                 kind: u8::from(frame.kind()),
                 reply: self.serve(&frame),
             },
-            Err(fault) => Answer {
+            Err(fault) => LineAnswer {
                 kind: fault.kind(),
                 reply: Err(LineFault::from(fault)),
             },
@@ -109,7 +109,7 @@ impl<D: Decider, P: Picker> Desk<'_, D, P> {
     }
 
     /// Writes the report line of an answer to the front of the buffer, and says how long it is.
-    pub(crate) fn report(&self, answer: &Answer, line: u16, buffer: &mut [u8]) -> Option<usize>
+    pub(crate) fn report(&self, answer: &LineAnswer, line: u16, buffer: &mut [u8]) -> Option<usize>
         requires { Fits answer.now.reply self.now.book.now }
         ensures { Printed (reply_bytes answer.now.kind line answer.now.reply self.now.book.now)
             buffer.old buffer.new result }

@@ -12,6 +12,7 @@ use Rattle.cases.specs.declared.slip.SlipData.{SlipData}
 use Rattle.cases.specs.Plain.{Plain}
 use Rattle.cases.specs.Calls.{Drawing, Signing, Entry}
 use Rattle.cases.specs.Refusing.{usable_refusal, slip_of, is_out, case_refusal, of_case, of_size, call_refusal}
+use Rattle.cases.specs.Slips.{Accepts}
 use Rattle.cases.specs.State.{State, state_with_slip}
 use Rattle.cases.specs.Making.{Draws}
 use Rattle.cases.specs.Replay.{effect_of, plain_after}
@@ -66,15 +67,15 @@ finding_by : (o : Option ℕ) (s : ℕ) → option_eq eqb o (Some s) ≡ true �
 finding_by None s e = true_false (sym e)
 finding_by (Some t) s e = ap Some (eqb→eq t s (subst T (sym e) tt))
 
--- A slip that the case takes is out: of an opened case, for its number and its finding.
-pub record IsTaken (p : Plain) (slip : SlipData) : Type 0 where
+-- A slip that the case accepts is out: of an opened case, for its number and its finding.
+pub record IsAccepted (p : Plain) (slip : SlipData) : Type 0 where
   pub opened : eqb p.task.n 0 ≡ false
   pub out : p.slip_out ≡ true
   pub number : p.number ≡ slip.number
   pub finding : p.finding ≡ Some slip.«set»
 
-pub taken : (p : Plain) (slip : SlipData) → case_refusal p (Signing slip) ≡ Ok tt → IsTaken p slip
-taken p slip is =
+pub accepted : (p : Plain) (slip : SlipData) → Accepts p slip → IsAccepted p slip
+accepted p slip is =
     let (opened, own) = opened_by (eqb p.task.n 0) _ is in
     let (out, rest) = and_parts p.slip_out _ (out_by (is_out p slip) own) in
     let (number, finding) = and_parts (eqb p.number slip.number) _ rest in
@@ -104,19 +105,19 @@ found_by (Some s) is = grind arith
 same_number : (n : ℕ) → eqb n n ≡ true
 same_number n = grind arith
 
-taken_by : (a b c : Bool) → a ≡ false → b ≡ true → c ≡ true
+accepted_by : (a b c : Bool) → a ≡ false → b ≡ true → c ≡ true
     → ◌≡◌ {A = Result Unit Refusal} (first_refusal (cond a (Err Unopened) (Ok tt)) (cond (true && (b && c)) (Ok tt) (Err WrongSlip))) (Ok tt)
-taken_by a b c p q r = rw (p, q, r) refl
+accepted_by a b c p q r = rw (p, q, r) refl
 
--- a slip that was drawn is the one that the case takes
-pub drawn_taken : (k k' : State) (slip : SlipData) → Draws k (Ok slip) k' → case_refusal k'.plain (Signing slip) ≡ Ok tt
-drawn_taken k k' slip d =
+-- a slip that was drawn is the one that the case accepts
+pub drawn_accepted : (k k' : State) (slip : SlipData) → Draws k (Ok slip) k' → Accepts k'.plain slip
+drawn_accepted k k' slip d =
     let p = k.plain in
     let (made, is) = made_by (case_refusal p Drawing) p slip d.answer in
     let (usable, own) = both_made (usable_refusal p) _ made in
     let (opened, out) = opened_by (eqb p.task.n 0) _ usable in
     let after_it : k' ≡ state_with_slip true k = d.after ∙ ap (λ (o : Result Unit Refusal). unless_refused o (state_with_slip true) k) made in
     let here : case_refusal (state_with_slip true k).plain (Signing (slip_of p)) ≡ Ok tt =
-    taken_by (eqb p.task.n 0) (eqb p.number p.number) (option_eq eqb p.finding (Some (unwrap_or p.finding 0))) opened (same_number p.number) (found_by p.finding own) in
+    accepted_by (eqb p.task.n 0) (eqb p.number p.number) (option_eq eqb p.finding (Some (unwrap_or p.finding 0))) opened (same_number p.number) (found_by p.finding own) in
     subst (λ (n : State). case_refusal n.plain (Signing slip) ≡ Ok tt) (sym after_it)
     (subst (λ (s : SlipData). case_refusal (state_with_slip true k).plain (Signing s) ≡ Ok tt) (sym is) here)

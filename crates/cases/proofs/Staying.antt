@@ -14,7 +14,7 @@ use Rattle.cases.specs.Refusing.{case_refusal, own_refusal, usable_refusal, call
 use Rattle.cases.specs.Replay.{effect_of, plain_after, replay, after_calls}
 use Rattle.cases.specs.Theorems.{SlipsStay}
 use Rattle.cases.specs.Slips.{InHand}
-use Rattle.cases.proofs.Refused.{true_false, Refuses, first_refuses, out_refuses, of_case_refuses, refused_stays, taken as taken_slip}
+use Rattle.cases.proofs.Refused.{true_false, Refuses, first_refuses, out_refuses, of_case_refuses, refused_stays, accepted as accepted_slip}
 
 -- one call more is fed to what the calls before have made
 pub replay_more : (p : Plain) (es : List Entry) (e : Entry) → replay p (es ++ e ∷ []) ≡ plain_after (replay p es) e
@@ -58,7 +58,7 @@ still_in : (p : Plain) (f : Plain → Plain) (r : Result Unit FinderFault) → p
 still_in p f (Ok u) inside made = made
 still_in p f (Err e) inside made = inside
 
--- what is taken by a draw is the task as it is
+-- a call that leaves the task as it is where it is made leaves it where it is refused too
 same_task : (p : Plain) (f : Plain → Plain) (r : Result Unit FinderFault) → (f p).task ≡ p.task → (unless_refused r f p).task ≡ p.task
 same_task p f (Ok u) is = is
 same_task p f (Err e) is = refl
@@ -117,9 +117,9 @@ pub hand_stays : (p : Plain) (x : Asked) (r : AnswerTo x) (h : Option SlipData) 
     → InHand (plain_after p (record { asked = x; answered = r })) h
 unfolding OpenIfOut
 hand_stays p x r None same inside = still_in p (effect_of x r) (call_refusal p x) inside (same ∙ inside)
-hand_stays p x r (Some slip) same taken =
-    let is = taken_slip p slip taken in
-    subst (λ (q : Plain). InHand q (Some slip)) (sym (stays p is.out (λ out. is.opened) x r (out_after (call_refusal p x) same is.out))) taken
+hand_stays p x r (Some slip) same accepted =
+    let is = accepted_slip p slip accepted in
+    subst (λ (q : Plain). InHand q (Some slip)) (sym (stays p is.out (λ out. is.opened) x r (out_after (call_refusal p x) same is.out))) accepted
   where
     out_after : (o : Result Unit FinderFault) → (effect_of x r p).slip_out ≡ p.slip_out → p.slip_out ≡ true → (unless_refused o (effect_of x r) p).slip_out ≡ true
     out_after (Ok u) e out = e ∙ out

@@ -11,11 +11,11 @@ abbrev pub decision_of : Result Unit (SlipData × Refusal) → Result Unit Refus
 decision_of (Ok u) = Ok tt
 decision_of (Err (slip, e)) = Err e
 
--- the case takes a slip that says this: it refuses neither to sign it nor to tear it
+-- the case accepts a slip that says this: it refuses neither to sign it nor to tear it
 abbrev pub Accepts : Plain → SlipData → Type 0
 Accepts p slip = case_refusal p (Signing slip) ≡ Ok tt
 
--- The slip in hand is one that the case takes; where none is in hand, none is out.
+-- The slip in hand is one that the case accepts; where none is in hand, none is out.
 abbrev pub InHand : Plain → Option SlipData → Type 0
 InHand p None = p.slip_out ≡ false
 InHand p (Some slip) = Accepts p slip

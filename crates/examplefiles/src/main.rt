@@ -28,7 +28,7 @@ fn case_names(rt: &HostRuntime) -> anyhow::Result<Vec<String>> {
 }
 
 /// What the finder reports of a text.
-fn report_of(heap: Global, text: &[u8]) -> anyhow::Result<Vec<u8>>
+fn finder_report(heap: Global, text: &[u8]) -> anyhow::Result<Vec<u8>>
     ensures { IfOk result (λ report. ServesCaseFile text.now (Some []) (Some report.items)) }
 {
     let mut output = BufWriter::new(heap, Vec::new(heap))?;
@@ -59,7 +59,7 @@ fn first_difference(report: &[u8], stored: &[u8]) -> Option<usize>
 }
 
 /// The bytes of a file. Where it can't be read, the error names it.
-fn bytes_of(rt: &HostRuntime, path: String) -> anyhow::Result<Vec<u8>> {
+fn file_bytes(rt: &HostRuntime, path: String) -> anyhow::Result<Vec<u8>> {
     fs::read(rt, path.as_str()).context(path)
 }
 
@@ -67,9 +67,9 @@ fn bytes_of(rt: &HostRuntime, path: String) -> anyhow::Result<Vec<u8>> {
 /// stored one.
 fn try_example(rt: &HostRuntime, name: &str) -> anyhow::Result<bool> {
     let heap = rt.alloc();
-    let text = bytes_of(rt, format!(in heap; "{name}.case")?)?;
-    let stored = bytes_of(rt, format!(in heap; "{name}.report")?)?;
-    let report = report_of(heap, &text)?;
+    let text = file_bytes(rt, format!(in heap; "{name}.case")?)?;
+    let stored = file_bytes(rt, format!(in heap; "{name}.report")?)?;
+    let report = finder_report(heap, &text)?;
     let lines = line_count(&report);
     let difference = first_difference(&report, &stored);
     match difference {

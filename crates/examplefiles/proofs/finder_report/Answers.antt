@@ -1,6 +1,6 @@
 use Rattle.std.proofs.Common.{rules, ◌≡◌, ℕ, List, [], ◌++◌, Some, Option, subst, ap, sym}
 use Rattle.console.specs.Fresh.{ServesCaseFile}
-use Rattle.examplefiles.proofs.report_of.Goals as goal
+use Rattle.examplefiles.proofs.finder_report.Goals as goal
 
 pub returns : goal.returns
 returns c =
