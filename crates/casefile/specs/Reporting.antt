@@ -32,6 +32,10 @@ pub record Bookmark : Type 0 where
   pub position : ℕ
   pub lines : ℕ
 
+-- what is always so of it: each line takes a byte at least, and a text has at most 16,384
+abbrev pub InText : Bookmark → Type 0
+InText at = (at.lines ≤ at.position) × (at.position ≤ 16384)
+
 -- reading stands at the beginning of a text
 abbrev pub AtStart : Bookmark → Type 0
 AtStart at = (at.position ≡ 0) × (at.lines ≡ 0)

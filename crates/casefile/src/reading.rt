@@ -1,6 +1,8 @@
 //! Reading a case file line by line.
 
-ghost use Rattle.casefile.specs.Reporting.{AtStart};
+ghost use Rattle.waivers.specs.Known.{WellKept};
+ghost use Rattle.cases.specs.State.{known_of};
+ghost use Rattle.casefile.specs.Reporting.{AtStart, InText};
 ghost use Rattle.casefile.specs.Desks.{KeepsLoans, KeepsReach, ReadsAt};
 
 use crate::fault::{ReadFault, report_too_long};
@@ -26,8 +28,7 @@ pub struct Reading {
 }
 
 impl Model for Reading {
-    ghost use Rattle.std.specs.Prelude.{◌≤◌};
-    ghost use Rattle.casefile.specs.Reporting.{Bookmark};
+    ghost use Rattle.casefile.specs.Reporting.{Bookmark, InText};
 
     ghost Value = { Bookmark };
 
@@ -35,13 +36,14 @@ impl Model for Reading {
 
     ghost inverse = { λ at. record { position = at.position; lines = at.lines } };
 
-    ghost invariant = { λ at. (at.lines ≤ at.position) × (at.position ≤ 16384) };
+    ghost invariant = { λ at. InText (record { position = at.position; lines = at.lines }) };
 }
 
 impl Reading {
     /// At the beginning of a text.
     pub fn start() -> Reading
-        ensures { AtStart result }
+        ensures start { AtStart result }
+        ensures inside { InText result }
     {
         Reading {
             position: 0,
@@ -64,9 +66,14 @@ impl Reading {
     ) -> Result<Option<usize>, ReadFault>
         ensures same { KeepsLoans desk.old desk.new }
         ensures reach { KeepsReach D.reach desk.old desk.new }
+        ensures kept { WellKept (known_of desk.new.case.now) }
         ensures reads { ReadsAt P.choice D.reach D.MARK text.now
             self.old self.new desk.old desk.new buffer.old buffer.new result }
+        ensures inside { InText self.new }
     {
+        // what is always so of reading and of the case is known from here on
+        let _ = &self.position;
+        let _ = desk.case.problem();
         if buffer.len() < MIN_REPORT {
             return Err(ReadFault::BufferTooShort);
         }

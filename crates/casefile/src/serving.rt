@@ -2,6 +2,8 @@
 
 ghost use Rattle.std.specs.Prelude.{◌≡◌};
 ghost use Rattle.frames.specs.Reports.{Printed};
+ghost use Rattle.waivers.specs.Known.{WellKept};
+ghost use Rattle.cases.specs.State.{known_of};
 ghost use Rattle.casefile.specs.Serving.{reply_to_call};
 ghost use Rattle.casefile.specs.Reporting.{reply_bytes, Fits};
 ghost use Rattle.casefile.specs.Desks.{KeepsLoans, KeepsReach, ServesAt, AsksAt};
@@ -68,6 +70,7 @@ impl<D: Decider, P: Picker> Desk<'_, D, P> {
     pub fn serve(&mut self, frame: &Frame) -> Result<Reply, LineFault>
         ensures same { KeepsLoans self.old self.new }
         ensures reach { KeepsReach D.reach self.old self.new }
+        ensures kept { WellKept (known_of self.new.case.now) }
         ensures serves { ServesAt P.choice D.reach D.MARK frame.now self.old result self.new }
     {
         match asked_by(frame) {
@@ -92,6 +95,7 @@ impl<D: Decider, P: Picker> Desk<'_, D, P> {
     pub(crate) fn ask(&mut self, line: &[u8]) -> LineAnswer
         ensures same { KeepsLoans self.old self.new }
         ensures reach { KeepsReach D.reach self.old self.new }
+        ensures kept { WellKept (known_of self.new.case.now) }
         ensures asks { AsksAt P.choice D.reach D.MARK line.now result.kind
             self.old result.reply self.new }
         ensures fits { Fits result.reply self.new.book.now }
@@ -101,10 +105,13 @@ impl<D: Decider, P: Picker> Desk<'_, D, P> {
                 kind: u8::from(frame.kind()),
                 reply: self.serve(&frame),
             },
-            Err(fault) => LineAnswer {
-                kind: fault.kind(),
-                reply: Err(LineFault::from(fault)),
-            },
+            Err(fault) => {
+                let _ = self.case.problem(); // says what is always so of the case
+                LineAnswer {
+                    kind: fault.kind(),
+                    reply: Err(LineFault::from(fault)),
+                }
+            }
         }
     }
 

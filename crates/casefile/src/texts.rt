@@ -1,6 +1,8 @@
 //! Serving a whole text.
 
 ghost use Rattle.std.specs.Prelude.{◌≤◌, length, take};
+ghost use Rattle.waivers.specs.Known.{WellKept};
+ghost use Rattle.cases.specs.State.{known_of};
 ghost use Rattle.casefile.specs.Faults.{report_length};
 ghost use Rattle.casefile.specs.Chains.{Writes, Reports};
 ghost use Rattle.casefile.specs.Desks.{KeepsLoans, KeepsReach, ServesTextAt};
@@ -48,6 +50,7 @@ pub fn serve_text<D: Decider, P: Picker, W: Write>(
 ) -> Result<(), ServeFault>
     ensures same { KeepsLoans desk.old desk.new }
     ensures reach { KeepsReach D.reach desk.old desk.new }
+    ensures kept { WellKept (known_of desk.new.case.now) }
     ensures serves { ServesTextAt P.choice D.reach D.MARK text.now (length buffer.old)
         desk.old desk.new (W.contents output.old) (W.contents output.new) result }
 {

@@ -1,7 +1,6 @@
 -- Each call that is made as its contract says keeps the law, and so do lists of calls.
 use Rattle.std.proofs.Common.{◌≡◌, ℕ, ◌≤◌, true, false, List, [], ◌∷◌, ◌++◌, length, get_or, Ok, Err, IfOk, Result, sym, refl, ap, ◌∙◌, subst, arith}
 use Rattle.rules.specs.declared.refusal.Refusal.{Refusal}
-use Rattle.rules.specs.Sets.{Meets}
 use Rattle.rules.specs.Planning.{Task, Solvable}
 use Rattle.rules.specs.Waivers.{Good, Hits}
 use Rattle.rules.specs.Refusals.{unless_refused, first_refusal}

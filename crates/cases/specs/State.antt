@@ -2,7 +2,7 @@
 use Rattle.std.specs.Prelude.{ℕ, Bool, false, List, [], None, Option, IfSome}
 use Rattle.rules.specs.Waivers.{Good}
 use Rattle.waivers.specs.declared.change.Change.{Change}
-use Rattle.waivers.specs.Known.{Known, Listed}
+use Rattle.waivers.specs.Known.{Known, WellKept}
 use Rattle.waivers.specs.Changes.{task_after, fate_of, groups_after, task_opened, task_waived}
 use Rattle.cases.specs.declared.slip.SlipData.{SlipData}
 use Rattle.cases.specs.Plain.{Plain, unopened}
@@ -20,10 +20,11 @@ fresh = record { plain = unopened; groups = [] }
 abbrev pub known_of : State → Known
 known_of k = record { task = k.plain.task; groups = k.groups }
 
--- what is always so of a case: what was found is a good set of its task, and its groups are listed
+-- what is always so of a case: what was found is a good set of its task, which has at most 32 facts,
+-- and its groups are listed
 pub record SoundCase (finding : Option ℕ) (k : Known) : Type 0 where
   pub good : IfSome finding (Good k.task)
-  pub listed : Listed k
+  pub kept : WellKept k
 
 -- ---- what accepted calls make of the plain case
 

@@ -3,7 +3,7 @@
 ghost use Rattle.std.specs.Prelude.{◌≡◌, ℕ, length, Ok, IsOk, IfOk, IfErr};
 ghost use Rattle.rules.specs.Planning.{Solvable};
 ghost use Rattle.deciders.specs.Reaching.{SameReach};
-ghost use Rattle.waivers.specs.Known.{Listed};
+ghost use Rattle.waivers.specs.Known.{Listed, WellKept};
 ghost use Rattle.cases.specs.Calls.{Signing, Tearing};
 ghost use Rattle.cases.specs.Refusing.{opened_refusal, usable_refusal, case_refusal};
 ghost use Rattle.cases.specs.Slips.{decision_of, Accepts};
@@ -78,7 +78,8 @@ impl Case {
     /// The problem that is planned over: its number of facts (0 where the case is unopened), its
     /// sets, one bit a fact, and its 64 places of steps.
     pub fn problem(&self) -> &Problem
-        ensures { result.now ≡ self.now.plain.task }
+        ensures same { result.now ≡ self.now.plain.task }
+        ensures kept { WellKept (known_of self.now) }
     {
         self.known.problem()
     }
@@ -109,7 +110,7 @@ impl Case {
     /// Refuses an unopened case.
     fn check_open(&self) -> Result<(), Refusal>
         ensures open { result ≡ opened_refusal self.now.plain }
-        ensures listed { Listed (known_of self.now) }
+        ensures kept { WellKept (known_of self.now) }
     {
         if self.known.problem().n == 0 {
             return Err(Refusal::Unopened);
@@ -120,7 +121,7 @@ impl Case {
     /// Refuses an unopened case, and one of which a slip is out.
     fn check_usable(&self) -> Result<(), Refusal>
         ensures usable { result ≡ usable_refusal self.now.plain }
-        ensures listed { Listed (known_of self.now) }
+        ensures kept { WellKept (known_of self.now) }
     {
         self.check_open()?;
         if self.slip_out {
@@ -135,7 +136,8 @@ impl Case {
     /// The host gives open cases different numbers: a slip is told by its case's number and its
     /// set, and no case knows of another (docs/SLIPS.md).
     pub fn open(&mut self, number: u32, n: u8, standing: Facts, order: Facts) -> Result<(), Refusal>
-        ensures { Opens number n standing order self.old result self.new }
+        ensures opens { Opens number n standing order self.old result self.new }
+        ensures kept { WellKept (known_of self.new) }
     {
         if self.problem().n != 0 {
             return Err(Refusal::AlreadyOpen);
@@ -152,7 +154,8 @@ impl Case {
     /// Refused: `Unopened`, `SlipOut`, then as the change is. A refusal changes nothing, here and
     /// below.
     pub fn change(&mut self, change: Change) -> Result<(), Refusal>
-        ensures { Changes change self.old result self.new }
+        ensures changes { Changes change self.old result self.new }
+        ensures kept { WellKept (known_of self.new) }
     {
         self.check_usable()?; // a slip that is out was drawn for the case as it is
         self.known.change(change)?;
@@ -162,14 +165,16 @@ impl Case {
 
     /// Adds facts to the standing. Refused: `Unopened`, `SlipOut`, `UnknownFact`.
     pub fn grant(&mut self, set: Facts) -> Result<(), Refusal>
-        ensures { Changes (Change.Grant «set») self.old result self.new }
+        ensures changes { Changes (Change.Grant «set») self.old result self.new }
+        ensures kept { WellKept (known_of self.new) }
     {
         self.change(Change::Grant(set))
     }
 
     /// Removes facts from the standing. Refused: `Unopened`, `SlipOut`, `UnknownFact`.
     pub fn lapse(&mut self, set: Facts) -> Result<(), Refusal>
-        ensures { Changes (Change.Lapse «set») self.old result self.new }
+        ensures changes { Changes (Change.Lapse «set») self.old result self.new }
+        ensures kept { WellKept (known_of self.new) }
     {
         self.change(Change::Lapse(set))
     }
@@ -183,7 +188,8 @@ impl Case {
         gives: Facts,
         takes: Facts,
     ) -> Result<(), Refusal>
-        ensures { Changes (Change.Put place needs gives takes) self.old result self.new }
+        ensures changes { Changes (Change.Put place needs gives takes) self.old result self.new }
+        ensures kept { WellKept (known_of self.new) }
     {
         self.change(Change::Put {
             place,
@@ -196,7 +202,8 @@ impl Case {
     /// Empties a place that holds a step. Refused: `Unopened`, `SlipOut`, `NoSuchPlace`,
     /// `PlaceEmpty`.
     pub fn withdraw(&mut self, place: u8) -> Result<(), Refusal>
-        ensures { Changes (Change.Withdraw place) self.old result self.new }
+        ensures changes { Changes (Change.Withdraw place) self.old result self.new }
+        ensures kept { WellKept (known_of self.new) }
     {
         self.change(Change::Withdraw(place))
     }
@@ -204,21 +211,24 @@ impl Case {
     /// Does a step for good, if its needs outside the waived facts stand. Refused: `Unopened`,
     /// `SlipOut`, `NoSuchPlace`, `PlaceEmpty`, `NeedMissing`.
     pub fn carry(&mut self, place: u8) -> Result<(), Refusal>
-        ensures { Changes (Change.Carry place) self.old result self.new }
+        ensures changes { Changes (Change.Carry place) self.old result self.new }
+        ensures kept { WellKept (known_of self.new) }
     {
         self.change(Change::Carry(place))
     }
 
     /// Adds facts to the order. Refused: `Unopened`, `SlipOut`, `UnknownFact`, `WaivedFact`.
     pub fn order(&mut self, set: Facts) -> Result<(), Refusal>
-        ensures { Changes (Change.Order «set») self.old result self.new }
+        ensures changes { Changes (Change.Order «set») self.old result self.new }
+        ensures kept { WellKept (known_of self.new) }
     {
         self.change(Change::Order(set))
     }
 
     /// Removes facts from the order. Refused: `Unopened`, `SlipOut`, `UnknownFact`.
     pub fn cancel(&mut self, set: Facts) -> Result<(), Refusal>
-        ensures { Changes (Change.Cancel «set») self.old result self.new }
+        ensures changes { Changes (Change.Cancel «set») self.old result self.new }
+        ensures kept { WellKept (known_of self.new) }
     {
         self.change(Change::Cancel(set))
     }
@@ -244,7 +254,7 @@ impl Case {
             (λ s. D.reach decider.old self.old.plain.task s (length sheet.old) (length book.old))
             D.MARK self.old sheet.old book.old
             (record { result = result; sheet = sheet.new; book = book.new }) self.new }
-        ensures listed { Listed (known_of self.new) }
+        ensures kept { WellKept (known_of self.new) }
         ensures same { SameReach (D.reach decider.old) (D.reach decider.new) }
     {
         self.check_usable()?;
@@ -265,6 +275,7 @@ impl Case {
     /// and the plan check. Refused: `Unopened`, `SlipOut`, `NoFinding`.
     pub fn draw(&mut self) -> Result<Slip, Refusal>
         ensures draws { Draws self.old result self.new }
+        ensures kept { WellKept (known_of self.new) }
         ensures accepted { IfOk result (λ slip. Accepts self.new.plain slip) }
     {
         self.check_usable()?;
@@ -282,6 +293,7 @@ impl Case {
     pub(crate) fn check_slip(&self, content: SlipData) -> Result<(), Refusal>
         ensures sign { result ≡ case_refusal self.now.plain (Signing content) }
         ensures tear { result ≡ case_refusal self.now.plain (Tearing content) }
+        ensures kept { WellKept (known_of self.now) }
     {
         self.check_open()?;
         if self.slip_out && self.number == content.number && self.finding == Some(content.set) {
@@ -297,6 +309,7 @@ impl Case {
         requires { Accepts self.old.plain slip }
         ensures after { self.new ≡ state_signed slip self.old }
         ensures plan { Solvable self.new.plain.task 0 }
+        ensures kept { WellKept (known_of self.new) }
     {
         let Slip { content } = slip;
         self.known.waive(content.set);
@@ -310,6 +323,7 @@ impl Case {
         ensures signs { Signs slip self.old (decision_of result) self.new }
         ensures accepted { Accepts self.old.plain slip → IsOk result }
         ensures back { IfErr result (λ e. e.0 ≡ slip) }
+        ensures kept { WellKept (known_of self.new) }
     {
         if let Err(refusal) = self.check_slip(slip.content) {
             return Err((slip, refusal));
@@ -324,6 +338,7 @@ impl Case {
         ensures tears { Tears slip self.old (decision_of result) self.new }
         ensures accepted { Accepts self.old.plain slip → IsOk result }
         ensures back { IfErr result (λ e. e.0 ≡ slip) }
+        ensures kept { WellKept (known_of self.new) }
     {
         match self.check_slip(slip.content) {
             Err(refusal) => Err((slip, refusal)),
@@ -340,6 +355,7 @@ impl Case {
     pub fn draw_and_sign(&mut self) -> Result<(), Refusal>
         ensures both { DrawsAndSigns self.old result self.new }
         ensures plan { IfOk result (λ u. Solvable self.new.plain.task 0) }
+        ensures kept { WellKept (known_of self.new) }
     {
         let slip = self.draw()?;
         self.waive(slip);
@@ -353,6 +369,7 @@ impl Case {
     pub fn check_plan(&mut self, strike: Facts, places: &[u8]) -> Result<PlanCheck, Refusal>
         ensures says { PlanChecked self.old.plain strike places.now result }
         ensures same { self.new ≡ self.old }
+        ensures kept { WellKept (known_of self.new) }
     {
         self.check_open()?;
         self.known.check_names(strike)?;

@@ -2,7 +2,7 @@
 
 ghost use Rattle.std.specs.Prelude.{◌≡◌, ◌≢◌, List, Some, MatchResult, IfOk};
 ghost use Rattle.deciders.specs.Reaching.{SameReach};
-ghost use Rattle.waivers.specs.Known.{Listed};
+ghost use Rattle.waivers.specs.Known.{Listed, WellKept};
 ghost use Rattle.cases.specs.State.{known_of};
 ghost use Rattle.cases.specs.Calls.{Entry, entry_of, Recorded};
 ghost use Rattle.cases.specs.Slips.{InHand};
@@ -165,6 +165,7 @@ pub fn run<D: Decider, P: Picker>(
         × Law (P.choice picker.now) D.reach D.MARK decider.old es decider.new r.case)
         (λ e. (e.value ≡ calls) × (decider.new ≡ decider.old)) }
     ensures slip { IfOk result (λ r. InHand r.case.plain r.slip) }
+    ensures kept { IfOk result (λ r. WellKept (known_of r.case)) }
     ensures same { SameReach (D.reach decider.old) (D.reach decider.new) }
 {
     let (Ok(mut case), Ok(mut answers)) = (Case::new(heap), Vec::with_capacity(heap, calls.len()))
@@ -178,6 +179,7 @@ pub fn run<D: Decider, P: Picker>(
         slip = in_hand;
         answers.push_reserved(answer);
     }
+    let _ = case.problem(); // says what is always so of the case
     Ok(Outcome {
         answers,
         case,

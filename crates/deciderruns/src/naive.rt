@@ -40,7 +40,11 @@ pub(crate) fn reachable(problem: &Problem, strike: Facts) -> (usize, bool) {
         *mark = true;
     }
     for _ in 0..STANDINGS {
+        let before = marked;
         mark_once(problem, gone, &mut marked);
+        if marked == before {
+            break;
+        }
     }
     let reached = marked.iter().filter(|is_marked| **is_marked).count();
     let mut standings = (0..STANDINGS as Facts).zip(marked.iter());

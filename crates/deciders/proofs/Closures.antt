@@ -1,5 +1,9 @@
 -- Closures: one round, the closure as the last of many rounds, and what is outside it.
 use Rattle.std.proofs.Common.{Bool, true, false, not, IsTrue, ◌↔◌, ◌≡◌, ℕ, zero, suc, ◌+◌, ◌<◌, ◌≤◌, ◌⊎◌, List, [], ◌∷◌, map, length, get_or, Some, None, Option, refl, sym, ap, ◌∙◌, subst, inl, inr, arith}
+use native.Mathlib.Decide.{dec_lt}
+use Rattle.std.specs.Prelude.{All, IfSome, is_some}
+use Rattle.std.proofs.lemmas.List.Filters.{length-filter_both}
+use Rattle.std.proofs.lemmas.List.Elements.{All-nil, All-cons, All-head, All-tail, All-filter, All-from_get_or}
 use lib.ListN.{get_or-map}
 use Rattle.std.proofs.lemmas.Bool.{cases_eq}
 use Rattle.std.proofs.lemmas.Grind.{common_steps}
@@ -9,7 +13,7 @@ use Rattle.rules.specs.Planning.{Task, result_of, Leads, place_without, step_wit
 use Rattle.rules.proofs.Sets.{bits, sub_le, same_facts, inside_dec}
 use Rattle.rules.proofs.Tables.{all_gives}
 use Rattle.rules.proofs.Plans.{some_without}
-use Rattle.deciders.specs.Closures.{Under, ClosedUnder, Closure, Round}
+use Rattle.deciders.specs.Closures.{Under, ClosedUnder, Closure, Round, filled}
 use Rattle.deciders.specs.Reaches.{ScreenedOut}
 use Rattle.deciders.specs.Theorems.{ClosureExists, ClosureUnique, ScreenedBlocked}
 
@@ -113,6 +117,51 @@ stays_inside p c u s (i ∷ l) sub (t, is, can, on) =
 
 pub screened_blocked : ScreenedBlocked
 screened_blocked p (c, x, out) l plan = out (stays_inside p c x.0.1 p.standing l x.0.0 plan)
+
+-- ---- the places that hold a step
+
+pub filled_few : (ts : List (Option Step)) → length (filled ts) ≤ length ts
+filled_few ts = omega (arith, length-filter_both is_some (λ o. not (is_some o)) (λ o. refl) ts)
+
+-- with its needs, d has what a step gives, if there is one
+abbrev HasGives : ℕ → Option Step → Type 0
+HasGives d o = IfSome o (λ t. t.needs ⊆ d → t.gives ⊆ d)
+
+has_all : (ts : List (Option Step)) (d : ℕ) → Under ts d → All (HasGives d) ts
+has_all ts d u = All-from_get_or (HasGives d) ts None (λ i lt. go i (get_or ts i None) refl)
+  where
+    go : (i : ℕ) (o : Option Step) → get_or ts i None ≡ o → HasGives d o
+    go i None e = tt
+    go i (Some t) e = u i t e
+
+all_under : (ts : List (Option Step)) (d : ℕ) → All (HasGives d) ts → Under ts d
+all_under ts d all i t e = elim (dec_lt i (length ts)) [
+  | yes lt ↦ subst (HasGives d) e (all i None lt)
+  | no ge ↦ absurd (grind (arith, common_steps))
+]
+
+all_filled : (d : ℕ) (ts : List (Option Step)) → All (HasGives d) (filled ts) → All (HasGives d) ts
+all_filled d [] all = All-nil (HasGives d)
+all_filled d (None ∷ ts) all = All-cons (HasGives d) None ts tt (all_filled d ts all)
+all_filled d (Some t ∷ ts) all =
+    All-cons (HasGives d) (Some t) ts (All-head (HasGives d) (Some t) (filled ts) all) (all_filled d ts (All-tail (HasGives d) (Some t) (filled ts) all))
+
+module _ (ts : List (Option Step)) where
+  under_filled : (d : ℕ) → Under (filled ts) d → Under ts d
+  under_filled d u = all_under ts d (all_filled d ts (has_all (filled ts) d u))
+
+  filled_under : (d : ℕ) → Under ts d → Under (filled ts) d
+  filled_under d u = all_under (filled ts) d (All-filter is_some (HasGives d) ts (has_all ts d u))
+
+  -- the closure is the same without the empty places
+  closure_filled : (s c : ℕ) → Closure (filled ts) s c → Closure ts s c
+  closure_filled s c ((holds, under), least) = ((holds, under_filled c under), λ d closed. least d (closed.0, filled_under d closed.1))
+
+  filled_closure : (s c : ℕ) → Closure ts s c → Closure (filled ts) s c
+  filled_closure s c ((holds, under), least) = ((holds, filled_under c under), λ d closed. least d (closed.0, under_filled d closed.1))
+
+  pub filled_same : (s o : ℕ) → ((c : ℕ) × Closure (filled ts) s c × (o ⊆ c)) ↔ ((c : ℕ) × Closure ts s c × (o ⊆ c))
+  filled_same s o = ((λ (c, closure, sub). (c, closure_filled s c closure, sub)), λ (c, closure, sub). (c, filled_closure s c closure, sub))
 
 -- ---- facts struck out
 

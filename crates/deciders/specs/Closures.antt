@@ -1,5 +1,5 @@
 -- The closure of a standing under steps, takes ignored.
-use Rattle.std.specs.Prelude.{◌≡◌, ℕ, ◌<◌, List, Some, None, Option, slice_index_or}
+use Rattle.std.specs.Prelude.{◌≡◌, ℕ, ◌<◌, List, Some, None, is_some, filter, Option, slice_index_or}
 use Rattle.rules.specs.Steps.{Step}
 use Rattle.rules.specs.Sets.{◌⊆◌}
 
@@ -22,3 +22,7 @@ pub record Round (ts : List (Option Step)) (n c r : ℕ) : Type 0 where
   pub least : (d : ℕ) → Under ts d → c ⊆ d → r ⊆ d
   pub all : (i : ℕ) (t : Step) → i < n → slice_index_or ts i None ≡ Some t
       → t.needs ⊆ c → t.gives ⊆ r
+
+-- the places that hold a step
+abbrev pub filled : List (Option Step) → List (Option Step)
+filled ts = filter is_some ts

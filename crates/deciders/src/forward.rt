@@ -13,7 +13,9 @@ use crate::struck::StruckOut;
 use rules::{Facts, Problem, Step, is_subset};
 
 /// Lists the standings that can be reached.
-#[derive(Default, Drop)]
+///
+/// A copy takes its memory along, 32 KiB.
+#[derive(Clone, Copy, Default)]
 pub struct Forward {
     search: Search,
 }

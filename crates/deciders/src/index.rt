@@ -13,7 +13,7 @@ const ROWS: u32 = MAX_ROWS as u32;
 /// `start + r`, and what is below `start`, as all that an earlier listing has left, stands for no
 /// row.
 // Fixed memory with no heap, a rule of the project; options for links would have to be cleared
-#[derive(Drop)]
+#[derive(Clone, Copy)]
 pub(crate) struct Index {
     heads: [u32; MAX_ROWS],
     links: [u32; MAX_ROWS],

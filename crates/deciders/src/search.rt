@@ -106,9 +106,8 @@ impl<'a> Listing<'a> {
 }
 
 /// A search with its memory, which is kept from query to query, so that none has to make it anew.
-#[derive(Default, Drop)]
+#[derive(Clone, Copy, Default)]
 pub(crate) struct Search {
-    struck: StruckOut,
     index: Index,
 }
 
@@ -132,9 +131,10 @@ impl Search {
         if check_sizes(sheet.len(), book.len()).is_err() {
             return Err(fault);
         }
-        self.struck.fill(problem, strike);
+        let mut struck = StruckOut::default();
+        struck.fill(problem, strike);
         let mut listing = Listing::new(sheet, &mut self.index);
-        match listing.list::<D>(&self.struck) {
+        match listing.list::<D>(&struck) {
             Ok(Some(row)) => Ok(Verdict::Solvable(listing.climb(row, book) as u16)),
             Ok(None) => Ok(Verdict::Blocked),
             Err(Unsettled) => Err(fault),

@@ -32,7 +32,9 @@ impl Model for StepTable {
 impl StepTable {
     /// A table of empty places.
     pub fn new() -> StepTable
-        ensures { result ≡ replicate 64 None }
+        ensures empty { result ≡ replicate 64 None }
+        ensures count { length result ≡ 64 }
+        ensures clear { AllClear result }
     {
         StepTable { places: [None; 64] }
     }
@@ -59,8 +61,11 @@ impl StepTable {
         ensures answer { result ≡ put_refusal self.old place }
         ensures after { self.new
             ≡ unless_refused result (λ ts. slice_set ts place (Some step)) self.old }
+        ensures count { length self.new ≡ 64 }
+        ensures clear { AllClear self.new }
     {
-        // that the step gives nothing that it takes is known once it is opened
+        // what is always so of table and step is known once they are opened
+        let _ = &self.places;
         let _ = &step.gives;
         if place >= PLACES {
             return Err(Refusal::NoSuchPlace);
@@ -77,7 +82,10 @@ impl StepTable {
     pub fn clear(&mut self, place: u8) -> Result<(), Refusal>
         ensures answer { result ≡ clear_refusal self.old place }
         ensures after { self.new ≡ unless_refused result (λ ts. slice_set ts place None) self.old }
+        ensures count { length self.new ≡ 64 }
+        ensures clear { AllClear self.new }
     {
+        let _ = &self.places; // what is always so of the table is known once it is opened
         if place >= PLACES {
             return Err(Refusal::NoSuchPlace);
         }

@@ -1,5 +1,5 @@
 -- Sets of the numbers that the program has, and the facts of a task.
-use Rattle.std.proofs.Common.{◌≡◌, ℕ, ◌^◌, ◌<◌, ◌≤◌, min, Bool, true, false, T, refl, ap, arith}
+use Rattle.std.proofs.Common.{◌≡◌, ℕ, ◌^◌, ◌<◌, ◌≤◌, min, ap, arith}
 use native.Mathlib.Decide.{dec_lt}
 use Rattle.rules.specs.Sets.{◌⊆◌, inside, below}
 use Rattle.rules.proofs.Sets.{bit_le, bit_high, bit_below, →inside}

@@ -28,6 +28,9 @@ pub(crate) fn lose(groups: &mut Vec<Facts>, set: Facts)
     ensures items { groups.new.items ≡ groups_without set groups.old.items }
     ensures room { vec_capacity groups.new ≡ vec_capacity groups.old }
 {
+    if groups.is_empty() {
+        return; // no list to make
+    }
     let left = without(groups, set);
     groups.truncate(left.len());
     groups.copy_from_slice(&left);

@@ -8,7 +8,7 @@ pub lines-init : goal.lines-init
 lines-init g c = record {
   same = search rules;
   reach = search rules;
-  progress = rw (c.start-reading.ensures.0, c.start-reading.ensures.1) (no_progress _ _ _ _ _ _ _);
+  progress = rw (c.start-reading.ensures.start.0, c.start-reading.ensures.start.1) (no_progress _ _ _ _ _ _ _);
 }
 
 pub lines-preserved : goal.lines-preserved

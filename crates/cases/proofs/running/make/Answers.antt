@@ -14,11 +14,11 @@ use Rattle.cases.proofs.running.make.Goals.{In-Find}
 pub returns-in-Open-clause-makes : goal.returns-in-Open-clause-makes
 returns-in-Open-clause-makes g c =
     let x = c.in-Open in
-    (record { asked = Opening x.number x.n x.standing x.order; answered = c.open.result }, ap (λ y. entry_of y (Done c.open.result)) x.is, c.open.ensures)
+    (record { asked = Opening x.number x.n x.standing x.order; answered = c.open.result }, ap (λ y. entry_of y (Done c.open.result)) x.is, c.open.ensures.opens)
 
 pub returns-in-Change-clause-makes : goal.returns-in-Change-clause-makes
 returns-in-Change-clause-makes g c =
-    (record { asked = Changing c.in-Change.change; answered = c.change.result }, ap (λ y. entry_of y (Done c.change.result)) c.in-Change.is, c.change.ensures)
+    (record { asked = Changing c.in-Change.change; answered = c.change.result }, ap (λ y. entry_of y (Done c.change.result)) c.in-Change.is, c.change.ensures.changes)
 
 pub returns-in-Find-clause-makes : goal.returns-in-Find-clause-makes
 returns-in-Find-clause-makes g c =
@@ -35,7 +35,7 @@ returns-in-Find-clause-makes g c =
             f.result s b c.as_mut_slice.result.now f.new.sheet c.as_mut_slice-in-Find.result.now f.new.book
             c.as_mut_slice.ensures.value c.as_mut_slice-in-Find.ensures.value
             (f.auto.sheet ∙ c.as_mut_slice.ensures.len) (f.auto.book ∙ c.as_mut_slice-in-Find.ensures.len) f.ensures.finds,
-        f.ensures.listed,
+        f.ensures.kept.listed,
       ),
     )
 

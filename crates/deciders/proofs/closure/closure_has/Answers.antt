@@ -1,30 +1,14 @@
-use Rattle.std.proofs.Common.{length, refl, sym, ◌∙◌, arith}
-use Rattle.std.proofs.lemmas.Bool.{false≢true}
-use Rattle.rules.proofs.Sets.{sub_le}
-use Rattle.deciders.proofs.Closures.{closing_more, closing_rises, closing_out, closure_exists, inside_closure, outside_closure}
+use Rattle.deciders.proofs.Closures.{closing_start, inside_closure, filled_same}
 use Rattle.deciders.proofs.closure.closure_has.Goals as goal
 
--- each round adds something, and nothing that is outside the closure
-pub loop-more-smaller : goal.loop-more-smaller
-loop-more-smaller c =
+pub returns-then-is_subset : goal.returns-then-is_subset
+returns-then-is_subset c =
     let ts = c.args.places.now in
-    let n = length ts in
-    let more = c.round-more.ensures in
-    let z = closure_exists ts c.args.standing in
-    let up = closing_rises ts n c.loop-more.all c.round-more.result more c.if-more-all.false in
-    let low = sub_le z.0 c.round-more.result ((closing_more ts c.args.standing n c.loop-more.all c.round-more.result c.loop-more.invariant more).least z.0 z.1.0) in
-    omega (arith, up, low)
+    let s = c.args.standing in
+    ((λ h. inside_closure ts s c.args.facts s (closing_start ts s) (c.is_subset.ensures.says.0 h)), λ h. c.if-is_subset.true)
 
--- nothing is added
-pub returns-then-more-all : goal.returns-then-more-all
-returns-then-more-all c =
-    let ts = c.args.places.now in
-    let closure =
-    closing_out ts c.args.standing (length ts) c.loop-more.all c.round-more.result (omega arith) c.loop-more.invariant c.round-more.ensures c.if-more-all.true in
-    let out = outside_closure ts c.args.standing c.args.facts c.loop-more.all closure (λ sub. false≢true (sym c.loop-more-test.true ∙ c.is_subset.ensures.says.1 sub)) in
-    ((λ h. cc), λ h. absurd (out h))
-
-pub returns : goal.returns
-returns c =
-    let sub = c.loop-more-test.ensures.says.0 refl in
-    ((λ h. inside_closure c.args.places.now c.args.standing c.args.facts c.loop-more.all c.loop-more.invariant sub), λ h. refl)
+pub returns-else-is_subset : goal.returns-else-is_subset
+returns-else-is_subset c =
+    let same = filled_same c.args.places.now c.args.standing c.args.facts in
+    let reached = rw (c.deref.ensures.0, c.steps_at.ensures) at c.rounds_reach.ensures in
+    ((λ h. same.0 (reached.0 h)), λ h. reached.1 (same.1 h))

@@ -10,4 +10,4 @@ returns-clause-plan c =
     let k = c.self.inside in
     let out = accepted c.args.self.now.plain c.slip.inside.content (rw c.slip.view_is c.requires) in
     signed_solvable k.known.task c.waive.new.self.task k.finding _ c.self.invariant.good
-    (ap (λ (n : State). n.plain.finding) c.self.view_is ∙ out.finding) (ap (λ (n : Known). n.task) c.waive.ensures)
+    (ap (λ (n : State). n.plain.finding) c.self.view_is ∙ out.finding) (ap (λ (n : Known). n.task) c.waive.ensures.after)
